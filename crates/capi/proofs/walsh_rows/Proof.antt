@@ -1,0 +1,20 @@
+-- The call's answer and result, passed on.
+use borrow.Author.Needs.{needs}
+use Rattle.capi.proofs.Passing.{passed}
+use Rattle.capi.proofs.walsh_rows.Statement.{statement}
+use Rattle.capi.proofs.walsh_rows.Tie as tie
+
+rows-requires : tie.Need-rows-requires
+rows-requires c κs = search needs
+
+reply-to-requires : tie.Need-reply-to-requires
+reply-to-requires c κs = search needs
+
+same-length : tie.Need-same-length
+same-length c = search needs
+
+returns : tie.Need-returns
+returns c = let d = c .before .before .rows in passed _ _ _ _ _ _ (c .reply-to .ensures) (d .ensures .0) (d .ensures .1)
+
+pub walsh-rows-spec : {M : Type 1} → statement M
+walsh-rows-spec = tie.close (tie.spec rows-requires reply-to-requires same-length returns)

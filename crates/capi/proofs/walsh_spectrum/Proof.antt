@@ -1,0 +1,20 @@
+-- The call's answer and result, passed on.
+use borrow.Author.Needs.{needs}
+use Rattle.capi.proofs.Passing.{passed}
+use Rattle.capi.proofs.walsh_spectrum.Statement.{statement}
+use Rattle.capi.proofs.walsh_spectrum.Tie as tie
+
+spectrum-requires : tie.Need-spectrum-requires
+spectrum-requires c κs = search needs
+
+reply-to-requires : tie.Need-reply-to-requires
+reply-to-requires c κs = search needs
+
+same-length : tie.Need-same-length
+same-length c = search needs
+
+returns : tie.Need-returns
+returns c = let d = c .before .before .spectrum in passed _ _ _ _ _ _ (c .reply-to .ensures) (d .ensures .0) (d .ensures .1)
+
+pub walsh-spectrum-spec : {M : Type 1} → statement M
+walsh-spectrum-spec = tie.close (tie.spec spectrum-requires reply-to-requires same-length returns)

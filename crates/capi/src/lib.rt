@@ -1,0 +1,98 @@
+// The calls for C and Rust: numbers and slices in (a slice as a pointer and a length), a `#[repr(C)]` struct out. An exported function cannot
+// return an enum, so the structs give document 01's number and place of each answer, by the definitions that the calls' own promises cite.
+use walsh::Answer;
+use walsh::Found;
+ghost use mathlib.Core.Path.{_≡_};
+ghost use lib.ListN.{length};
+ghost use Rattle.walsh.specs.Answers.{numberOf, placeOf, leaves, foundOf, foundNumber, foundPlace, foundValue};
+ghost use Rattle.walsh.specs.Faults.{stuckOf, stuckAnswer, stuckSpectrumOf, openedAnswer, openedSpectrumOf};
+ghost use Rattle.walsh.specs.Lists.{spectrumAnswer, rowsAnswer, rowsOf};
+ghost use Rattle.walsh.specs.Spectrum.{spectrumOf};
+ghost use Rattle.capi.specs.Replies.{Gives, GivesFound};
+
+// Number 0 where the call is done.
+#[repr(C)]
+pub struct Reply {
+    pub number: u32,
+    pub place: usize,
+}
+
+// The coefficient is 0 with a refusal.
+#[repr(C)]
+pub struct Sum {
+    pub number: u32,
+    pub value: i32,
+    pub place: usize,
+}
+
+fn reply_to(a: Answer) -> Reply
+    ensures { λ r. ⌜ Gives r a ⌝ }
+{
+    match a {
+        Answer::Done => Reply {
+            number: 0,
+            place: 0,
+        },
+        Answer::Refused { number, place } => Reply { number, place },
+    }
+}
+
+// The coefficient of the rows at a label.
+#[no_mangle]
+pub extern "C" fn walsh_coefficient(rows: &[i32], label: u32) -> Sum
+    ensures { λ r. ⌜ GivesFound r (foundOf (now (rows .entry)) label) ⌝ }
+{
+    match walsh::coefficient(rows, label) {
+        Found::Coefficient(value) => Sum {
+            number: 0,
+            value,
+            place: 0,
+        },
+        Found::Refused { number, place } => Sum {
+            number,
+            value: 0,
+            place,
+        },
+    }
+}
+
+// Rows to their spectrum.
+#[no_mangle]
+pub extern "C" fn walsh_spectrum(rows: &[i32], out: &mut [i32]) -> Reply
+    ensures { λ r. ⌜ Gives r (spectrumAnswer (now (rows .entry)) (length (now (out .entry)))) ⌝ }
+    ensures { λ r. ⌜ now (out .exit) ≡ leaves (spectrumAnswer (now (rows .entry)) (length (now (out .entry)))) (spectrumOf (now (rows .entry))) (now (out .entry)) ⌝ }
+{
+    reply_to(walsh::spectrum(rows, out))
+}
+
+// A spectrum to its rows.
+#[no_mangle]
+pub extern "C" fn walsh_rows(coefficients: &[i32], out: &mut [i32]) -> Reply
+    ensures { λ r. ⌜ Gives r (rowsAnswer (now (coefficients .entry)) (length (now (out .entry)))) ⌝ }
+    ensures { λ r. ⌜ now (out .exit) ≡ leaves (rowsAnswer (now (coefficients .entry)) (length (now (out .entry)))) (rowsOf (now (coefficients .entry))) (now (out .entry)) ⌝ }
+{
+    reply_to(walsh::rows(coefficients, out))
+}
+
+// The spectrum with one to three inputs stuck.
+#[no_mangle]
+pub extern "C" fn walsh_stuck(
+    coefficients: &[i32],
+    inputs: &[u32],
+    values: &[u32],
+    out: &mut [i32],
+) -> Reply
+    ensures { λ r. ⌜ Gives r (stuckAnswer (now (coefficients .entry)) (now (inputs .entry)) (now (values .entry)) (length (now (out .entry)))) ⌝ }
+    ensures { λ r. ⌜ now (out .exit) ≡ leaves (stuckAnswer (now (coefficients .entry)) (now (inputs .entry)) (now (values .entry)) (length (now (out .entry)))) (stuckSpectrumOf (stuckOf (now (inputs .entry)) (now (values .entry))) (now (coefficients .entry))) (now (out .entry)) ⌝ }
+{
+    reply_to(walsh::stuck(coefficients, inputs, values, out))
+}
+
+// The spectrum with the last one to three lines opened.
+#[no_mangle]
+pub extern "C" fn walsh_opened(coefficients: &[i32], values: &[u32], out: &mut [i32]) -> Reply
+    ensures { λ r. ⌜ Gives r (openedAnswer (now (coefficients .entry)) (now (values .entry)) (length (now (out .entry)))) ⌝ }
+    ensures { λ r. ⌜ now (out .exit) ≡ leaves (openedAnswer (now (coefficients .entry)) (now (values .entry)) (length (now (out .entry)))) (openedSpectrumOf (now (coefficients .entry)) (now (values .entry))) (now (out .entry)) ⌝ }
+{
+    reply_to(walsh::opened(coefficients, values, out))
+}

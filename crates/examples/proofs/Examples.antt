@@ -1,0 +1,18 @@
+-- Document 01's examples follow from the definitions:
+--   examples-hold    every case of the table holds, each by computation
+use mathlib.Core.Path.{refl}
+use lib.Count.{ones}
+use Rattle.integer.specs.First.{firstFrom, firstWhere}
+use Rattle.integer.specs.Sum.{sumTo}
+use Rattle.integer.specs.Tab.{tab}
+use Rattle.walsh.specs.Answers.{inputsTo, inputsOf, outside, outsideAt, firstOutside, screenOf, foundOf}
+use Rattle.walsh.specs.Lists.{spectrumAnswer, unfit, unfitAt, firstUnfit, dividedAnswer, quotientAt, quotientsOf, rowsOf, rowsAnswer}
+use Rattle.walsh.specs.Spectrum.{termOf, signedSum, coefficientOf, spectrumOf}
+use Rattle.walsh.specs.Faults.{stuckOf, names, subsetSum, stuckAt, stuckSpectrumOf, rising, binary, fewOf, stuckRight, stuckAnswer, openedRight, linesAfter, openedSumAt, openedAt, openedSpectrumOf, undividedAt, firstUndivided, undividedAnswer, openedAnswer, replacedAll, stuckRow, stuckRows, openedRowNumber, openedRow, openedRows}
+use Rattle.examples.specs.Functions.{isOneOf, figure, productOrInput, selected, gated, gatedOpened}
+use Rattle.examples.specs.Table.{Holds, Every, table}
+
+pub examples-hold : Every Holds table
+unfolding table figure productOrInput selected gated gatedOpened isOneOf tab sumTo firstFrom firstWhere ones termOf signedSum coefficientOf spectrumOf inputsTo inputsOf outside outsideAt firstOutside screenOf foundOf spectrumAnswer unfit unfitAt firstUnfit dividedAnswer quotientAt quotientsOf rowsOf rowsAnswer stuckOf names subsetSum stuckAt stuckSpectrumOf rising binary fewOf stuckRight stuckAnswer openedRight linesAfter openedSumAt openedAt openedSpectrumOf undividedAt firstUndivided undividedAnswer openedAnswer replacedAll stuckRow stuckRows openedRowNumber openedRow openedRows
+examples-hold =
+    ((refl, refl), (refl, ((refl, refl), ((refl, refl), ((refl, refl), ((refl, refl), ((refl, refl), (refl, ((refl, refl), ((refl, refl), ((refl, refl), ((refl, refl), (refl, (refl, ((refl, refl), ((refl, refl), tt))))))))))))))))

@@ -1,0 +1,2 @@
+pub mod Functions
+pub mod Table

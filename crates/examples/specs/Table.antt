@@ -1,0 +1,77 @@
+-- Document 01's examples marked •, those on lists, as one table. A case says what a call leaves for it, through the definitions that the
+-- calls' promises cite; cases of circuits and reports join as further constructors.
+use Prim.Native.Nat.{ℕ, _^_, _-_}
+use mathlib.Core.Path.{_≡_}
+use mathlib.Core.List.{List, [], _∷_}
+use lib.IntN.{ℤ, pos}
+use lib.ListN.{length, replicate}
+use Rattle.integer.specs.Tab.{nth}
+use Rattle.walsh.specs.Answers.{minus, leaves, foundOf}
+use Rattle.walsh.specs.Lists.{spectrumAnswer, rowsAnswer, rowsOf}
+use Rattle.walsh.specs.Spectrum.{coefficientOf, spectrumOf}
+use Rattle.walsh.specs.Faults.{stuckOf, stuckAnswer, stuckSpectrumOf, stuckRows, keptInputs, openedAnswer, openedSpectrumOf, openedRows}
+use Rattle.walsh.specs.declared.Found.the-variants.{Coefficient}
+use Rattle.examples.specs.Functions.{figure, productOrInput, selected, gated, gatedOpened}
+
+pub data Case : Type 0 where
+  -- rows and their whole spectrum
+  whole : List ℤ → List ℤ → Case
+  -- rows, a label and its coefficient
+  one : List ℤ → ℕ → ℤ → Case
+  -- rows, stuck inputs and their values, and the sum of the faulted rows
+  stuck : List ℤ → List ℕ → List ℕ → ℤ → Case
+  -- rows, the values of the opened last lines, and the sum of the rows with the lines set
+  opened : List ℤ → List ℕ → ℤ → Case
+
+-- a result that is lent, of n numbers
+abbrev pub lent : ℕ → List ℤ
+lent n = replicate n (pos 0)
+
+-- what each call leaves in a result of the length that is due
+abbrev pub spectrumLeft : List ℤ → List ℤ
+spectrumLeft rows = leaves (spectrumAnswer rows (length rows)) (spectrumOf rows) (lent (length rows))
+
+abbrev pub rowsLeft : List ℤ → List ℤ
+rowsLeft c = leaves (rowsAnswer c (length c)) (rowsOf c) (lent (length c))
+
+abbrev pub stuckLeft : List ℤ → List ℕ → List ℕ → List ℤ
+stuckLeft c inputs values = leaves (stuckAnswer c inputs values (length c)) (stuckSpectrumOf (stuckOf inputs values) c) (lent (length c))
+
+abbrev pub openedLeft : List ℤ → List ℕ → List ℤ
+openedLeft c values = leaves (openedAnswer c values (2 ^ keptInputs c values)) (openedSpectrumOf c values) (lent (2 ^ keptInputs c values))
+
+-- what a case says: of the call, and under a fault of the sum over the faulted rows too
+abbrev pub Holds : Case → Type 0
+Holds (whole rows coefficients) = (spectrumLeft rows ≡ coefficients) × (rowsLeft coefficients ≡ rows)
+Holds (one rows label z) = foundOf rows label ≡ Coefficient z
+Holds (stuck rows inputs values z) = (nth (stuckLeft (spectrumOf rows) inputs values) 0 ≡ z) × (coefficientOf (stuckRows (stuckOf inputs values) rows) 0 ≡ z)
+Holds (opened rows values z) = (nth (openedLeft (spectrumOf rows) values) 0 ≡ z) × (coefficientOf (openedRows (keptInputs rows values) values rows) 0 ≡ z)
+
+abbrev pub Every : (Case → Type 0) → List Case → Type 0
+Every P [] = Unit {0}
+Every P (c ∷ rest) = P c × Every P rest
+
+unfoldable pub table : List Case
+table =
+    -- Ones at rows 5, 7, 8, 9, 10, 14, 15 of 16 (004, fig. 1)
+    whole figure (pos 7 ∷ minus 1 ∷ minus 1 ∷ minus 1 ∷ minus 1 ∷ pos 3 ∷ pos 3 ∷ minus 1 ∷ minus 3 ∷ minus 3 ∷ pos 1 ∷ pos 1 ∷ minus 3 ∷ pos 1 ∷ minus 3 ∷ pos 1 ∷ [])
+    -- x1x2 + x3: sum 5; x1 stuck at 0 gives 4, at 1 gives 6; x3 stuck at 0 gives 2, at 1 gives 8
+    ∷ one productOrInput 0 (pos 5)
+    ∷ stuck productOrInput (1 ∷ []) (0 ∷ []) (pos 4)
+    ∷ stuck productOrInput (1 ∷ []) (1 ∷ []) (pos 6)
+    ∷ stuck productOrInput (3 ∷ []) (0 ∷ []) (pos 2)
+    ∷ stuck productOrInput (3 ∷ []) (1 ∷ []) (pos 8)
+    -- x1x2 + x3·not x2: 4, -2, 0, 2, -2, 0, -2, 0
+    ∷ whole selected (pos 4 ∷ minus 2 ∷ pos 0 ∷ pos 2 ∷ minus 2 ∷ pos 0 ∷ minus 2 ∷ pos 0 ∷ [])
+    -- x1x2x3 + x4·not(x2x3): sum 8; x1, x2 stuck at 0,0: 8; 1,0: 8; 0,1: 4; 1,1: 12
+    ∷ one gated 0 (pos 8)
+    ∷ stuck gated (1 ∷ 2 ∷ []) (0 ∷ 0 ∷ []) (pos 8)
+    ∷ stuck gated (1 ∷ 2 ∷ []) (1 ∷ 0 ∷ []) (pos 8)
+    ∷ stuck gated (1 ∷ 2 ∷ []) (0 ∷ 1 ∷ []) (pos 4)
+    ∷ stuck gated (1 ∷ 2 ∷ []) (1 ∷ 1 ∷ []) (pos 12)
+    -- The same with x2x3 of the first product opened: 17 at label 0, -5 at the opened line; stuck at 0 gives 6, at 1 gives 11
+    ∷ one gatedOpened 0 (pos 17)
+    ∷ one gatedOpened 16 (minus 5)
+    ∷ opened gatedOpened (0 ∷ []) (pos 6)
+    ∷ opened gatedOpened (1 ∷ []) (pos 11)
+    ∷ []

@@ -1,0 +1,7 @@
+pub mod Group
+pub mod Bounds
+pub mod Sums
+pub mod Machine
+pub mod Tabs
+pub mod Firsts
+pub mod Division

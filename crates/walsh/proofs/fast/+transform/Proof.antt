@@ -1,0 +1,139 @@
+-- The measure is `inputs`. One number is its own spectrum, four are left to `quad`; of more, the two calls leave the halves' spectra,
+-- and the butterfly merges them (`Merging`).
+use borrow.Author.Needs.{needs}
+use mathlib.Core.Path.{sym, ap, _∙_, subst}
+use mathlib.Core.List.{List}
+use Prim.Native.Nat.{ℕ, _<_, _-_, _^_}
+use native.Mathlib.Omega.{arith}
+use lib.IntN.{ℤ}
+use lib.Seq.{length-take-le}
+use Rattle.walsh.proofs.Merging.{single, Call, less, first-asks, second-asks, butterfly-asks, butterfly-leaves}
+use borrow.Fn.Kinds.{In}
+use borrow.Fn.PlainCycle.{Measures, is, falls, and}
+use Rattle.walsh.proofs.fast.transform.Reads as transform
+use Rattle.walsh.proofs.fast.transform.Kinds as transform-kinds
+use Rattle.walsh.proofs.fast.+transform.Lts-transform as lts
+use Rattle.walsh.proofs.fast.butterfly.Reads as butterfly
+use Rattle.walsh.proofs.fast.quad.Reads as quad
+use Rattle.walsh.proofs.fast.+transform.{statement}
+use Rattle.walsh.proofs.fast.+transform.Tie.{close}
+
+abbrev μ-transform : Measures 1 transform-kinds.ps ℕ
+μ-transform κs a = a .1 .0
+
+abbrev at : ℕ → In 1 transform-kinds.ps
+at t = and 1 transform-kinds.ps (is 1 transform-kinds.ps μ-transform t) transform.Pre
+
+abbrev below : ℕ → In 1 transform-kinds.ps
+below t = and 1 transform-kinds.ps (falls 1 transform-kinds.ps _<_ μ-transform t) transform.Pre
+
+-- what the callees ask and ensure
+abbrev callees : ℕ → lts.Claims
+callees t = (quad.Asked, quad.Learnt, below t, transform.Post, butterfly.Asked, butterfly.Learnt)
+
+module _ (t : ℕ) where
+  -- past both tests
+  module _ (e : lts.Else2 (callees t) (at t) transform.Post) where
+    abbrev A : List ℤ
+    A = e .before .before .args .a .now
+
+    abbrev K : ℕ
+    K = e .before .before .args .inputs
+
+    call : Call A K
+    call = record {
+      above = e .before .if1 .left;
+      few = e .before .before .pre .1 .0;
+      long = e .before .before .pre .1 .1 .0;
+      small = e .before .before .pre .1 .1 .1;
+    }
+
+    falls-here : K - 1 < t
+    falls-here = subst (λ (m : ℕ). K - 1 < m) (e .before .before .pre .0) (less A K call)
+
+  returns : lts.Need-returns (callees t) (at t) transform.Post
+  returns c = single (c .before .args .a .now) (c .before .pre .1 .1 .0 ∙ ap (λ (m : ℕ). 2 ^ m) (c .if1 .taken))
+
+  quad-requires : lts.Need-quad-requires (callees t) (at t) transform.Post
+  quad-requires c κs = let s = c .before .before .before in (s .pre .1 .1 .0 ∙ ap (λ (m : ℕ). 2 ^ m) (c .before .if2 .taken), s .pre .1 .1 .1)
+
+  same-length : lts.Need-same-length (callees t) (at t) transform.Post
+  same-length c = search needs
+
+  returns-2 : lts.Need-returns-2 (callees t) (at t) transform.Post
+  returns-2 c = c .before .quad .ensures
+
+  slice-relend-prefix-transform : lts.Need-slice-relend-prefix-transform (callees t) (at t) transform.Post
+  slice-relend-prefix-transform c = search needs
+
+  slice-aggregate-transform : lts.Need-slice-aggregate-transform (callees t) (at t) transform.Post
+  slice-aggregate-transform c = sym (length-take-le _ (c .before .before .before .args .a .now) (omega arith))
+
+  sub-transform : lts.Need-sub-transform (callees t) (at t) transform.Post
+  sub-transform c = search needs
+
+  transform-requires : lts.Need-transform-requires (callees t) (at t) transform.Post
+  transform-requires c κs = let e = c .before in (falls-here e, first-asks (A e) (K e) (call e))
+
+  mul-transform : lts.Need-mul-transform (callees t) (at t) transform.Post
+  mul-transform c = search needs
+
+  sub-transform-2 : lts.Need-sub-transform-2 (callees t) (at t) transform.Post
+  sub-transform-2 c = search needs
+
+  part-transform-start : lts.Need-part-transform-start (callees t) (at t) transform.Post
+  part-transform-start c = search needs
+
+  part-transform-end : lts.Need-part-transform-end (callees t) (at t) transform.Post
+  part-transform-end c = search needs
+
+  sub-transform-3 : lts.Need-sub-transform-3 (callees t) (at t) transform.Post
+  sub-transform-3 c = search needs
+
+  transform-requires-2 : lts.Need-transform-requires-2 (callees t) (at t) transform.Post
+  transform-requires-2 c κs =
+      let f = c .before .before in
+      let e = f .before .before in
+      (falls-here e, second-asks (A e) (K e) (call e) (f .transform .last .0) (f .transform .ensures))
+
+  butterfly-requires : lts.Need-butterfly-requires (callees t) (at t) transform.Post
+  butterfly-requires c κs =
+      let g = c .before .before in
+      let f = g .before .before .before in
+      let e = f .before .before in
+      butterfly-asks (A e) (K e) (call e) (f .transform .last .0) (f .transform .ensures) (g .transform2 .last .0) (g .transform2 .ensures)
+
+  same-length-2 : lts.Need-same-length-2 (callees t) (at t) transform.Post
+  same-length-2 c = search needs
+
+  returns-3 : lts.Need-returns-3 (callees t) (at t) transform.Post
+  returns-3 c =
+      let g = c .before .before .before .before in
+      let f = g .before .before .before in
+      let e = f .before .before in
+      c .before .butterfly .ensures
+      ∙ butterfly-leaves (A e) (K e) (call e) (f .transform .last .0) (f .transform .ensures) (g .transform2 .last .0) (g .transform2 .ensures)
+
+pub +transform-spec : {M : Type 1} → statement M
++transform-spec =
+    close μ-transform λ t. lts.spec
+    (callees t)
+    (at t)
+    transform.Post
+    (returns t)
+    (quad-requires t)
+    (same-length t)
+    (returns-2 t)
+    (slice-relend-prefix-transform t)
+    (slice-aggregate-transform t)
+    (sub-transform t)
+    (transform-requires t)
+    (mul-transform t)
+    (sub-transform-2 t)
+    (part-transform-start t)
+    (part-transform-end t)
+    (sub-transform-3 t)
+    (transform-requires-2 t)
+    (butterfly-requires t)
+    (same-length-2 t)
+    (returns-3 t)

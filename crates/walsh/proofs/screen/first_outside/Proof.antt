@@ -1,0 +1,98 @@
+-- The invariant: `i` is at most the length, and no number before `i` is outside; so the first one that is found is the first.
+use borrow.Author.Needs.{needs}
+use mathlib.Core.Path.{_≡_, sym, ap, _∙_}
+use mathlib.Core.Bool.{false}
+use Prim.Native.Nat.{ℕ, _-_, _≤_, _<_, _^_}
+use lib.IntN.{ℤ}
+use lib.Signed.{mag, ltZ}
+use lib.ListN.{length}
+use mir.Syntax.{w32}
+use mir.Val.{toZ, ofZ}
+use mir.ValLaws.{toZ-ofZ}
+use Rattle.integer.specs.Tab.{nth}
+use Rattle.walsh.specs.Answers.{outsideAt}
+use native.Mathlib.Omega.{arith}
+use borrow.Author.Count.{below-more}
+use Rattle.walsh.proofs.Screens.{outside-low, outside-high, outside-none, outside-back, found-outside, none-outside}
+use Rattle.walsh.proofs.screen.first_outside.Statement.{statement}
+use Rattle.walsh.proofs.screen.first_outside.Tie as tie
+
+abbrev Inv-loop : tie.InvT-loop
+Inv-loop list low high i₀ i = (i ≤ length list) × ((x : ℕ) → x < i → outsideAt (toZ w32 low) (toZ w32 high) list x ≡ false)
+
+abbrev μ-loop : tie.MeasureT-loop
+μ-loop list low high i₀ i = length list - i
+
+-- the machine reads a number back from its bits
+abbrev back : ℤ → ℤ
+back z = toZ w32 (ofZ w32 z)
+
+plain : (z : ℤ) → mag z < 2 ^ 31 → back z ≡ z
+plain z h = toZ-ofZ w32 z (record { sfits = h })
+
+loop-holds : tie.Need-loop-holds Inv-loop μ-loop
+loop-holds c = (search needs, λ x h. absurd (omega arith))
+
+mul-z : tie.Need-mul-z Inv-loop μ-loop
+mul-z c = search needs
+
+shared-slice-copy-out-z : tie.Need-shared-slice-copy-out-z Inv-loop μ-loop
+shared-slice-copy-out-z c = search needs
+
+returns : tie.Need-returns Inv-loop μ-loop
+returns c =
+    let l = c .before .before .before in
+    let a = l .before .args in
+    let z = nth (a .list .now) (l .loop .i) in
+    let low = back (a .low) in
+    let e = outside-low low (back (a .high)) z (ap (λ (y : ℤ). ltZ y low) (sym (plain z (c .before .z .given))) ∙ c .if1 .taken) in
+    sym (found-outside low (back (a .high)) (a .list .now) (l .loop .i) (c .before .before .loop-test .taken) (l .loop .inv .1) e) ∙ outside-back (a .low) (a .high) (a .list .now) (l .before .fits .low) (l .before .fits .high)
+
+returns-2 : tie.Need-returns-2 Inv-loop μ-loop
+returns-2 c =
+    let l = c .before .before .before .before in
+    let a = l .before .args in
+    let z = nth (a .list .now) (l .loop .i) in
+    let high = back (a .high) in
+    let e = outside-high (back (a .low)) high z (ap (λ (y : ℤ). ltZ high y) (sym (plain z (c .before .before .z .given))) ∙ c .if2 .taken) in
+    sym (found-outside (back (a .low)) high (a .list .now) (l .loop .i) (c .before .before .before .loop-test .taken) (l .loop .inv .1) e) ∙ outside-back (a .low) (a .high) (a .list .now) (l .before .fits .low) (l .before .fits .high)
+
+add-i : tie.Need-add-i Inv-loop μ-loop
+add-i c = search needs
+
+loop-less : tie.Need-loop-less Inv-loop μ-loop
+loop-less c = search needs
+
+loop-again : tie.Need-loop-again Inv-loop μ-loop
+unfolding outsideAt
+loop-again c =
+    let l = c .before .before .before .before in
+    let a = l .before .args in
+    let z = nth (a .list .now) (l .loop .i) in
+    let low = back (a .low) in
+    let high = back (a .high) in
+    let here = sym (plain z (c .before .before .z .given)) in
+    let e = outside-none low high z (ap (λ (y : ℤ). ltZ y low) here ∙ c .before .if1 .left) (ap (λ (y : ℤ). ltZ high y) here ∙ c .if2 .left) in
+    (search needs, below-more _ _ (l .loop .inv .1) e)
+
+returns-3 : tie.Need-returns-3 Inv-loop μ-loop
+returns-3 c =
+    let l = c .before in
+    let a = l .before .args in
+    sym (none-outside (back (a .low)) (back (a .high)) (a .list .now) (l .loop .i) (l .loop .inv .0) (c .loop-test .left) (l .loop .inv .1)) ∙ outside-back (a .low) (a .high) (a .list .now) (l .before .fits .low) (l .before .fits .high)
+
+pub first-outside-spec : {M : Type 1} → statement M
+first-outside-spec =
+    tie.close
+    (tie.spec
+    Inv-loop
+    μ-loop
+    loop-holds
+    mul-z
+    shared-slice-copy-out-z
+    returns
+    returns-2
+    add-i
+    loop-less
+    loop-again
+    returns-3)

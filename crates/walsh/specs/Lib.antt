@@ -1,0 +1,5 @@
+pub mod Spectrum
+pub mod Answers
+pub mod Lists
+pub mod Faults
+pub mod Steps

@@ -1,0 +1,28 @@
+-- What the steps of the fast transform and of the fault formulas leave: definitions that only contracts of private functions cite.
+use Prim.Native.Nat.{ℕ, _+_, _-_, _^_}
+use mathlib.Core.List.{List, _++_}
+use mathlib.Core.Bool.{Bool, true, false, cond}
+use lib.IntN.{ℤ, pos, _+ℤ_, _-ℤ_}
+use lib.Dec.{eqb}
+use lib.ListN.{length}
+use Rattle.integer.specs.Sum.{signed}
+use Rattle.integer.specs.Tab.{tab, nth}
+use Rattle.walsh.specs.Faults.{bitOf}
+
+-- sums of the two halves of a list of h + h numbers, then their differences
+abbrev pub sumAt : List ℤ → ℕ → ℕ → ℤ
+sumAt a h x = nth a x +ℤ nth a (h + x)
+
+abbrev pub differenceAt : List ℤ → ℕ → ℕ → ℤ
+differenceAt a h x = nth a x -ℤ nth a (h + x)
+
+unfoldable pub halvesMixed : List ℤ → ℕ → List ℤ
+halvesMixed a h = tab h (sumAt a h) ++ tab h (differenceAt a h)
+
+-- one input stuck: 0 where the label names it, else the coefficient and the one that adds the input, negated where the value is not 0
+unfoldable pub stuckOnceAt : ℕ → ℕ → List ℤ → ℕ → ℤ
+stuckOnceAt input value a label =
+    cond (eqb (bitOf input label) 0) (nth a label +ℤ signed value (nth a (label + 2 ^ (input - 1)))) (pos 0)
+
+unfoldable pub stuckOnce : ℕ → ℕ → List ℤ → List ℤ
+stuckOnce input value a = tab (length a) (stuckOnceAt input value a)

@@ -1,0 +1,185 @@
+//! Times the library's whole-list calls on 2,048 numbers against the
+//! reference's direct ones and, for the spectrum, a plain fast transform.
+
+use reference::random::Random;
+use reference::walsh::ROW_LIMIT;
+use reference::{fast, library, walsh};
+use std::hint::black_box;
+use std::time::Instant;
+
+const LENGTH: usize = 2048;
+const ROUNDS: usize = 31;
+/// Calls are repeated within a measurement until it lasts this long.
+const MEASUREMENT_SECONDS: f64 = 0.002;
+
+struct Contender<'a> {
+    name: &'static str,
+    call: Box<dyn FnMut() + 'a>,
+    repeats: usize,
+    seconds: Vec<f64>,
+}
+
+impl<'a> Contender<'a> {
+    fn new(name: &'static str, call: impl FnMut() + 'a) -> Self {
+        let mut contender = Contender {
+            name,
+            call: Box::new(call),
+            repeats: 1,
+            seconds: Vec::new(),
+        };
+        // Also warms up.
+        while contender.measure() * (contender.repeats as f64) < MEASUREMENT_SECONDS {
+            contender.repeats *= 2;
+        }
+        contender
+    }
+
+    /// Seconds per call.
+    fn measure(&mut self) -> f64 {
+        let start = Instant::now();
+        for _ in 0..self.repeats {
+            (self.call)();
+        }
+        start.elapsed().as_secs_f64() / self.repeats as f64
+    }
+
+    fn median(&self) -> f64 {
+        let mut sorted = self.seconds.clone();
+        sorted.sort_by(f64::total_cmp);
+        sorted[sorted.len() / 2]
+    }
+}
+
+/// The library's call and those it is held against.
+struct Race<'a> {
+    name: &'static str,
+    library: Contender<'a>,
+    others: Vec<Contender<'a>>,
+}
+
+fn main() {
+    let mut random = Random::new(2048);
+    let rows = random.list(LENGTH, ROW_LIMIT);
+    let spectrum = walsh::spectrum(&rows, LENGTH).expect("rows in range");
+    let (inputs, values) = ([2, 5, 11], [0, 1, 1]);
+    check(&rows, &spectrum, &inputs, &values);
+
+    let (rows, spectrum) = (&rows[..], &spectrum[..]);
+    // One buffer for each contender, so that none meets another's result.
+    let mut buffers = vec![vec![0; LENGTH]; 5];
+    let mut lend = buffers.iter_mut();
+    let mut buffer = || lend.next().expect("a buffer for each contender");
+    let (to_spectrum, to_fast, to_rows) = (buffer(), buffer(), buffer());
+    let (to_stuck, to_opened) = (buffer(), buffer());
+
+    let mut races = [
+        Race {
+            name: "spectrum of 2,048 rows",
+            library: Contender::new("library", move || {
+                black_box(library::spectrum(black_box(rows), black_box(to_spectrum)));
+            }),
+            others: vec![
+                Contender::new("reference, direct sums", move || {
+                    let _ = black_box(walsh::spectrum(black_box(rows), LENGTH));
+                }),
+                Contender::new("fast transform in Rust", move || {
+                    let _ = black_box(fast::spectrum(black_box(rows), black_box(to_fast)));
+                }),
+            ],
+        },
+        Race {
+            name: "rows of 2,048 coefficients",
+            library: Contender::new("library", move || {
+                black_box(library::rows(black_box(spectrum), black_box(to_rows)));
+            }),
+            others: vec![Contender::new("reference, direct sums", move || {
+                let _ = black_box(walsh::rows(black_box(spectrum), LENGTH));
+            })],
+        },
+        Race {
+            name: "3 stuck inputs of 11",
+            library: Contender::new("library", move || {
+                black_box(library::stuck(
+                    black_box(spectrum),
+                    black_box(&inputs),
+                    black_box(&values),
+                    black_box(to_stuck),
+                ));
+            }),
+            others: vec![Contender::new("reference, subset sums", move || {
+                let (inputs, values) = (black_box(&inputs), black_box(&values));
+                let _ = black_box(walsh::stuck(black_box(spectrum), inputs, values, LENGTH));
+            })],
+        },
+        Race {
+            name: "3 opened lines of 11",
+            library: Contender::new("library", move || {
+                black_box(library::opened(
+                    black_box(spectrum),
+                    black_box(&values),
+                    black_box(to_opened),
+                ));
+            }),
+            others: vec![Contender::new("reference, subset sums", move || {
+                let values = black_box(&values);
+                let _ = black_box(walsh::opened(black_box(spectrum), values, LENGTH));
+            })],
+        },
+    ];
+
+    // Every round measures each contender once, so noise hits all alike.
+    for _ in 0..ROUNDS {
+        for race in &mut races {
+            let contenders = std::iter::once(&mut race.library).chain(&mut race.others);
+            for contender in contenders {
+                let seconds = contender.measure();
+                contender.seconds.push(seconds);
+            }
+        }
+    }
+
+    println!("Microseconds per call, median of {ROUNDS} interleaved rounds.");
+    println!("Buffers were not cleared between calls; the reference makes its own list.");
+    println!();
+    println!(
+        "{:<28}{:>10}  {:<24}{:>10}{:>15}",
+        "call", "library", "against", "time", "library/that"
+    );
+    for race in &races {
+        for other in &race.others {
+            let (ours, theirs) = (race.library.median(), other.median());
+            println!(
+                "{:<28}{:>10.2}  {:<24}{:>10.2}{:>15.4}",
+                race.name,
+                ours * 1e6,
+                other.name,
+                theirs * 1e6,
+                ours / theirs
+            );
+        }
+    }
+}
+
+/// What is timed must be equal first.
+fn check(rows: &[i32], spectrum: &[i32], inputs: &[u32], values: &[u32]) {
+    let mut out = vec![0; LENGTH];
+    assert_eq!(library::spectrum(rows, &mut out).number, 0);
+    assert_eq!(out, spectrum, "the library's spectrum differs");
+
+    out.fill(0);
+    assert_eq!(fast::spectrum(rows, &mut out), Ok(()));
+    assert_eq!(out, spectrum, "the fast transform's spectrum differs");
+
+    assert_eq!(library::rows(spectrum, &mut out).number, 0);
+    assert_eq!(out, rows, "the library's rows differ");
+    let due = walsh::rows(spectrum, LENGTH);
+    assert_eq!(due.as_deref(), Ok(rows), "the reference's rows differ");
+
+    assert_eq!(library::stuck(spectrum, inputs, values, &mut out).number, 0);
+    let due = walsh::stuck(spectrum, inputs, values, LENGTH);
+    assert_eq!(Ok(out.clone()), due, "the results for stuck inputs differ");
+
+    assert_eq!(library::opened(spectrum, values, &mut out).number, 0);
+    let due = walsh::opened(spectrum, values, LENGTH).expect("a spectrum of rows");
+    assert_eq!(out[..due.len()], due, "the results for opened lines differ");
+}

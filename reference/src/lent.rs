@@ -1,0 +1,99 @@
+//! A buffer to lend: noise before it, in it and after it, so that a number
+//! written where none is due shows, inside the lent part or beyond it.
+
+use std::fmt::Debug;
+
+const GUARD: usize = 16;
+
+pub struct Lent<T> {
+    all: Vec<T>,
+    before: Vec<T>,
+    room: usize,
+}
+
+impl<T: Copy + PartialEq + Debug> Lent<T> {
+    pub fn new(room: usize, noise: impl FnMut() -> T) -> Self {
+        let mut all = Vec::new();
+        all.resize_with(GUARD + room + GUARD, noise);
+        let before = all.clone();
+        Lent { all, before, room }
+    }
+
+    /// The part that is lent.
+    pub fn part(&mut self) -> &mut [T] {
+        &mut self.all[GUARD..GUARD + self.room]
+    }
+
+    /// Asserts that the lent part begins with `written` and that every
+    /// other number, inside it and around it, is what it was.
+    pub fn assert_holds(&self, written: &[T], case: std::fmt::Arguments) {
+        assert!(
+            written.len() <= self.room,
+            "{case}: {} numbers are due in a buffer of {}",
+            written.len(),
+            self.room
+        );
+        let mut due = self.before.clone();
+        due[GUARD..GUARD + written.len()].copy_from_slice(written);
+        if let Some(at) = (0..due.len()).find(|&at| self.all[at] != due[at]) {
+            panic!(
+                "{case}: buffer[{}] of {} is {:?}, was {:?}, should be {:?}",
+                at as isize - GUARD as isize,
+                self.room,
+                self.all[at],
+                self.before[at],
+                due[at]
+            );
+        }
+    }
+}
+
+#[cfg(test)]
+mod tests {
+    use super::*;
+
+    fn lent() -> Lent<i32> {
+        let mut next = 100;
+        Lent::new(4, || {
+            next += 1;
+            next
+        })
+    }
+
+    #[test]
+    fn what_was_written_and_an_untouched_tail_pass() {
+        let mut lent = lent();
+        lent.part()[..2].copy_from_slice(&[7, 8]);
+        lent.assert_holds(&[7, 8], format_args!("two numbers"));
+    }
+
+    #[test]
+    #[should_panic(expected = "buffer[2] of 4")]
+    fn a_touched_tail_is_seen() {
+        let mut lent = lent();
+        lent.part()[..3].copy_from_slice(&[7, 8, 9]);
+        lent.assert_holds(&[7, 8], format_args!("one number too many"));
+    }
+
+    #[test]
+    #[should_panic(expected = "buffer[4] of 4")]
+    fn a_number_past_the_buffer_is_seen() {
+        let mut lent = lent();
+        lent.all[GUARD + 4] = 7;
+        lent.assert_holds(&[], format_args!("past the end"));
+    }
+
+    #[test]
+    #[should_panic(expected = "buffer[-1] of 4")]
+    fn a_number_before_the_buffer_is_seen() {
+        let mut lent = lent();
+        lent.all[GUARD - 1] = 7;
+        lent.assert_holds(&[], format_args!("before the start"));
+    }
+
+    #[test]
+    #[should_panic(expected = "buffer[0] of 4")]
+    fn a_missing_number_is_seen() {
+        lent().assert_holds(&[7], format_args!("nothing written"));
+    }
+}

@@ -1,0 +1,111 @@
+//! The doors of the static library, with slices in place of pointers.
+
+/// What a list call gives back: number 0 and place 0 when it is done, else
+/// the refusal and its place.
+#[repr(C)]
+#[derive(Clone, Copy, Debug, PartialEq, Eq)]
+pub struct Answer {
+    pub number: u32,
+    pub place: usize,
+}
+
+/// What the call for one coefficient gives back; value 0 with a refusal.
+#[repr(C)]
+#[derive(Clone, Copy, Debug, PartialEq, Eq)]
+pub struct Found {
+    pub number: u32,
+    pub value: i32,
+    pub place: usize,
+}
+
+/// The C interface itself.
+mod doors {
+    use super::{Answer, Found};
+
+    extern "C" {
+        pub fn walsh_coefficient(rows: *const i32, rows_len: usize, label: u32) -> Found;
+        pub fn walsh_spectrum(
+            rows: *const i32,
+            rows_len: usize,
+            out: *mut i32,
+            out_len: usize,
+        ) -> Answer;
+        pub fn walsh_rows(
+            coefficients: *const i32,
+            len: usize,
+            out: *mut i32,
+            out_len: usize,
+        ) -> Answer;
+        pub fn walsh_stuck(
+            coefficients: *const i32,
+            len: usize,
+            inputs: *const u32,
+            inputs_len: usize,
+            values: *const u32,
+            values_len: usize,
+            out: *mut i32,
+            out_len: usize,
+        ) -> Answer;
+        pub fn walsh_opened(
+            coefficients: *const i32,
+            len: usize,
+            values: *const u32,
+            values_len: usize,
+            out: *mut i32,
+            out_len: usize,
+        ) -> Answer;
+    }
+}
+
+pub fn coefficient(rows: &[i32], label: u32) -> Found {
+    // SAFETY: pointer and length are those of one live slice.
+    unsafe { doors::walsh_coefficient(rows.as_ptr(), rows.len(), label) }
+}
+
+pub fn spectrum(rows: &[i32], out: &mut [i32]) -> Answer {
+    // SAFETY: each pointer and length are those of one live slice, and only
+    // `out`, which overlaps no other, is written.
+    unsafe { doors::walsh_spectrum(rows.as_ptr(), rows.len(), out.as_mut_ptr(), out.len()) }
+}
+
+pub fn rows(coefficients: &[i32], out: &mut [i32]) -> Answer {
+    // SAFETY: as for `spectrum`.
+    unsafe {
+        doors::walsh_rows(
+            coefficients.as_ptr(),
+            coefficients.len(),
+            out.as_mut_ptr(),
+            out.len(),
+        )
+    }
+}
+
+pub fn stuck(coefficients: &[i32], inputs: &[u32], values: &[u32], out: &mut [i32]) -> Answer {
+    // SAFETY: as for `spectrum`.
+    unsafe {
+        doors::walsh_stuck(
+            coefficients.as_ptr(),
+            coefficients.len(),
+            inputs.as_ptr(),
+            inputs.len(),
+            values.as_ptr(),
+            values.len(),
+            out.as_mut_ptr(),
+            out.len(),
+        )
+    }
+}
+
+pub fn opened(coefficients: &[i32], values: &[u32], out: &mut [i32]) -> Answer {
+    // SAFETY: as for `spectrum`.
+    unsafe {
+        doors::walsh_opened(
+            coefficients.as_ptr(),
+            coefficients.len(),
+            values.as_ptr(),
+            values.len(),
+            out.as_mut_ptr(),
+            out.len(),
+        )
+    }
+}
