@@ -2,6 +2,7 @@
 --   put-low-half, put-high-half, put-above    the replaced digit in each half of the numbers below 2 ^ (b + 1), and below a higher digit
 --   digit-low-half, digit-high-half, digit-above    the digit there
 --   put-below    the number stays below 2 ^ k
+--   put-shows, put-keeps    the digit has the value, and every other digit is as it was
 --   add-below    where digit b is 0, adding 2 ^ b stays below 2 ^ k
 --   digit-beyond    and changes no digit above b
 use mathlib.Core.Path.{_≡_, refl, sym, ap, ap₂, _∙_, subst}
@@ -10,7 +11,8 @@ use Prim.Native.Nat.{ℕ, zero, suc, _+_, _*_, _-_, _/_, _%_, _^_, _≤_, _<_}
 use native.Mathlib.Nat.{lt-of-not-le, div-eq-of-lt, mod-eq-of-lt, add-mul-div-right, add-mul-mod-self-right, mul-assoc, mul-comm, add-assoc, add-comm, pow-suc, zero-mul, one-mul, add-mul, mod-lt, div-add-mod'}
 use native.Mathlib.Decide.{decLe}
 use native.Mathlib.Omega.{arith}
-use lib.Pow.{pow-pos, pow-add, pow-mono, shr-shr}
+use lib.Arith.{lt-of-le-ne}
+use lib.Pow.{pow-pos, pow-add, pow-mono, shr-shr, high, low, field, mod-mod-pow}
 use Rattle.walsh.proofs.Halving.{double, which}
 
 abbrev pub digit : ℕ → ℕ → ℕ
@@ -132,3 +134,46 @@ digit-beyond b c y l e = ap (λ (n : ℕ). n % 2) (split (y + 2 ^ b) ∙ ap (λ 
       where
         half : (q : ℕ) → q % 2 ≡ 0 → (q + 1) / 2 ≡ q / 2
         half q z = omega arith
+
+-- the number is the digits above, the value and the digits below
+module _ (b v x : ℕ) (hv : v < 2) where
+  below : x % 2 ^ b < 2 ^ b
+  below = mod-lt x (pow-pos b)
+
+  by-digit : put b v x ≡ (x / 2 ^ suc b * 2 + v) * 2 ^ b + x % 2 ^ b
+  by-digit =
+      ap (λ (n : ℕ). x / 2 ^ suc b * n + v * 2 ^ b + x % 2 ^ b) (pow-suc 2 b ∙ mul-comm (2 ^ b) 2)
+      ∙ ap (λ (n : ℕ). n + v * 2 ^ b + x % 2 ^ b) (sym (mul-assoc (x / 2 ^ suc b) 2 (2 ^ b)))
+      ∙ ap (λ (n : ℕ). n + x % 2 ^ b) (sym (add-mul (x / 2 ^ suc b * 2) v (2 ^ b)))
+
+  pub put-shows : digit b (put b v x) ≡ v
+  put-shows = ap (digit b) by-digit ∙ ap (λ (n : ℕ). n % 2) (high (x / 2 ^ suc b * 2 + v) b below) ∙ last (x / 2 ^ suc b)
+    where
+      last : (q : ℕ) → (q * 2 + v) % 2 ≡ v
+      last q = omega arith
+
+  above-same : put b v x / 2 ^ suc b ≡ x / 2 ^ suc b
+  above-same = ap (λ (n : ℕ). n / 2 ^ suc b) (add-assoc (x / 2 ^ suc b * 2 ^ suc b) (v * 2 ^ b) (x % 2 ^ b)) ∙ high (x / 2 ^ suc b) (suc b) (small b v (x % 2 ^ b) hv below)
+
+  below-same : put b v x % 2 ^ b ≡ x % 2 ^ b
+  below-same = ap (λ (n : ℕ). n % 2 ^ b) by-digit ∙ low (x / 2 ^ suc b * 2 + v) b below
+
+  -- a digit above b is one of the quotient by 2 ^ (b + 1), one below b is one of the remainder by 2 ^ b
+  digit-of-high : (c n : ℕ) → b < c → digit c n ≡ n / 2 ^ suc b / 2 ^ (c - suc b) % 2
+  digit-of-high c n l = let e : c ≡ suc b + (c - suc b) = omega arith in ap (λ (m : ℕ). n / 2 ^ m % 2) e ∙ ap (λ (m : ℕ). m % 2) (sym (shr-shr n (suc b) (c - suc b)))
+
+  digit-of-low : (c n : ℕ) → c < b → digit c n ≡ n % 2 ^ b / 2 ^ c % 2
+  digit-of-low c n l =
+      let e : b ≡ (b - suc c + 1) + c = omega arith in
+      sym (ap (λ (m : ℕ). n % 2 ^ m / 2 ^ c % 2) e ∙ ap (λ (m : ℕ). m % 2) (field n (b - suc c + 1) c) ∙ mod-mod-pow (n / 2 ^ c) (b - suc c) 1)
+
+  pub put-keeps : (c : ℕ) → (c ≡ b → ⊥) → digit c (put b v x) ≡ digit c x
+  put-keeps c other = pick (decLe c b)
+    where
+      pick : Dec (c ≤ b) → digit c (put b v x) ≡ digit c x
+      pick (yes l) =
+          let s : c < b = lt-of-le-ne l other in
+          digit-of-low c (put b v x) s ∙ ap (λ (m : ℕ). m / 2 ^ c % 2) below-same ∙ sym (digit-of-low c x s)
+      pick (no l) =
+          let s = lt-of-not-le l in
+          digit-of-high c (put b v x) s ∙ ap (λ (m : ℕ). m / 2 ^ (c - suc b) % 2) above-same ∙ sym (digit-of-high c x s)

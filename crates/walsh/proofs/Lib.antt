@@ -2,7 +2,7 @@ pub mod Arguments
 pub mod Butterflies
 pub mod Copies
 pub mod Digits
-pub mod Fours
+pub mod Faulted
 pub mod Halving
 pub mod Merging
 pub mod OneStuck

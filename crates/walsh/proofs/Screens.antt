@@ -5,13 +5,15 @@
 --   outside-small, small-outside                not outside -B .. B means a size of at most B
 --   outside-sizes                               what is not outside low .. high is no larger than the two together
 --   found-outside, none-outside                 what a loop that tests one number after the other has found
+--   any-turn, any-all                           what a loop that tests every number has found
 --   screened-within, within-screened            no number outside -B .. B means a list within B
 --   Screened, screen-done, done-screen          what the answer Done of `screenOf` means
 --   screen-unsized, -wrong, -outside, -short    its refusals, in their order
 use mathlib.Core.Path.{_≡_, refl, sym, ap, ap₂, _∙_}
 use mathlib.Core.List.{List}
-use mathlib.Core.Bool.{Bool, true, false, cond}
+use mathlib.Core.Bool.{Bool, true, false, cond, _||_}
 use Prim.Native.Nat.{ℕ, zero, suc, _+_, _^_, _≤_, _<_}
+use native.Mathlib.Numerals.{add-one}
 use native.Mathlib.Nat.{lt-of-not-le, two-pow-succ, pow-le-pow-right, one-le-pow}
 use native.Mathlib.Decide.{decLe}
 use native.Mathlib.Omega.{arith}
@@ -27,7 +29,8 @@ use Rattle.integer.specs.Tab.{nth, Within}
 use Rattle.integer.proofs.Firsts.{clash, first-hit, first-none, first-all}
 use Rattle.integer.proofs.Group.{natAbs-neg}
 use Rattle.walsh.specs.declared.Answer.the-variants.{Done, Refused}
-use Rattle.walsh.specs.Answers.{choose, inputsTo, inputsOf, outside, outsideAt, firstOutside, screenOf}
+use Rattle.walsh.specs.Answers.{numberOf, choose, inputsTo, inputsOf, outside, outsideAt, firstOutside, screenOf}
+use Rattle.walsh.specs.Steps.{anyWhere, anyOutside}
 
 -- The number of inputs.
 
@@ -162,6 +165,34 @@ module _ (low high : ℤ) (l : List ℤ) (i : ℕ) where
   unfolding firstOutside
   none-outside h k f = first-none (outsideAt low high l) (length l) (λ x b. f x (omega arith)) ∙ omega arith
 
+-- in the order of the machine's tests
+either : (a b c : Bool) → ((a || b) || c) ≡ cond a true (cond b true c)
+either true b c = refl
+either false true c = refl
+either false false c = refl
+
+pub any-turn : (low high : ℤ) (l : List ℤ) (i : ℕ) {z : ℤ} {any : Bool} → z ≡ nth l i → any ≡ anyWhere (outsideAt low high l) i
+    → ((any || ltZ z low) || ltZ high z) ≡ anyWhere (outsideAt low high l) (i + 1)
+unfolding anyWhere outsideAt outside
+any-turn low high l i {z} {any} ez e =
+    either any (ltZ z low) (ltZ high z)
+    ∙ ap₂ (λ (t : Bool) (y : ℤ). cond t true (outside low high y)) e ez
+    ∙ ap (anyWhere (outsideAt low high l)) (sym (add-one i))
+
+none-where : (p : ℕ → Bool) (n : ℕ) → anyWhere p n ≡ false → (x : ℕ) → x < n → p x ≡ false
+unfolding anyWhere
+none-where p zero e x h = absurd (omega arith)
+none-where p (suc n) e x h = pick (none-where p n) (anyWhere p n) refl e (decLe n x)
+  where
+    pick : (anyWhere p n ≡ false → (y : ℕ) → y < n → p y ≡ false) → (b : Bool) → anyWhere p n ≡ b → cond b true (p n) ≡ false → Dec (n ≤ x) → p x ≡ false
+    pick ih true eb e d = clash e
+    pick ih false eb e (yes g) = let k : x ≡ n = omega arith in ap p k ∙ e
+    pick ih false eb e (no g) = ih eb x (lt-of-not-le g)
+
+pub any-all : (low high : ℤ) (l : List ℤ) → anyOutside low high l ≡ false → firstOutside low high l ≡ length l
+unfolding anyOutside firstOutside
+any-all low high l e = first-none (outsideAt low high l) (length l) (none-where (outsideAt low high l) (length l) e)
+
 pub screened-within : (B : ℕ) (l : List ℤ) → length l ≤ firstOutside (negℤ (pos B)) (pos B) l → Within B l
 unfolding firstOutside outsideAt
 screened-within B l h x k = outside-small B (nth l x) (first-all (outsideAt (negℤ (pos B)) (pos B) l) (length l) h x k)
@@ -194,6 +225,18 @@ screen-done low high test l room due e = go (eqb (inputsOf (length l)) 0) refl t
     go false ea true et true eb c ec e = never 10 (firstOutside low high l) e
     go false ea false et b eb c ec e = never 12 0 e
     go true ea t et b eb c ec e = never 9 0 e
+
+-- 11 is not among them
+pub screen-not-11 : (low high : ℤ) (test : Bool) (l : List ℤ) (room due : ℕ) → numberOf (screenOf low high test l room due) ≡ 11 → ⊥
+unfolding screenOf
+screen-not-11 low high test l room due = go (eqb (inputsOf (length l)) 0) test (ltb (firstOutside low high l) (length l)) (ltb room due)
+  where
+    go : (a t b c : Bool) → numberOf (choose a (Refused 9 0) (choose t (choose b (Refused 10 (firstOutside low high l)) (choose c (Refused 8 0) Done)) (Refused 12 0))) ≡ 11 → ⊥
+    go true t b c e = omega arith
+    go false false b c e = omega arith
+    go false true true c e = omega arith
+    go false true false true e = omega arith
+    go false true false false e = omega arith
 
 -- what is due counts only where the arguments are right
 pub screen-due : (low high : ℤ) (test : Bool) (l : List ℤ) (room : ℕ) {m n : ℕ} → (test ≡ true → m ≡ n) → screenOf low high test l room m ≡ screenOf low high test l room n

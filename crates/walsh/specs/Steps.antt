@@ -1,5 +1,5 @@
--- What the steps of the fast transform and of the fault formulas leave: definitions that only contracts of private functions cite.
-use Prim.Native.Nat.{ℕ, _+_, _-_, _^_}
+-- What the steps of the tests, of the fast transform and of the fault formulas leave: definitions that only contracts of private functions cite.
+use Prim.Native.Nat.{ℕ, zero, suc, _+_, _-_, _^_}
 use mathlib.Core.List.{List, _++_}
 use mathlib.Core.Bool.{Bool, true, false, cond}
 use lib.IntN.{ℤ, pos, _+ℤ_, _-ℤ_}
@@ -7,7 +7,17 @@ use lib.Dec.{eqb}
 use lib.ListN.{length}
 use Rattle.integer.specs.Sum.{signed}
 use Rattle.integer.specs.Tab.{tab, nth}
+use Rattle.walsh.specs.Answers.{outsideAt}
 use Rattle.walsh.specs.Faults.{bitOf}
+
+-- whether some x below n passes the test p
+unfoldable pub anyWhere : (ℕ → Bool) → ℕ → Bool
+anyWhere p zero = false
+anyWhere p (suc n) = cond (anyWhere p n) true (p n)
+
+-- whether some number is not from low to high
+unfoldable pub anyOutside : ℤ → ℤ → List ℤ → Bool
+anyOutside low high l = anyWhere (outsideAt low high l) (length l)
 
 -- sums of the two halves of a list of h + h numbers, then their differences
 abbrev pub sumAt : List ℤ → ℕ → ℕ → ℤ

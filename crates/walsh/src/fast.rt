@@ -25,24 +25,47 @@ fn butterfly(a: &mut [i64], h: usize)
     }
 }
 
-// The spectrum of four numbers: the recursion's last two levels at once, which saves most of its calls.
-fn quad(a: &mut [i64])
+// The spectrum of two numbers. It and the next three are the recursion's last levels, with sizes that the compiler knows: it makes straight code of
+// them, which saves most of the calls and of the loads and stores.
+fn two(a: &mut [i64])
+    requires { ⌜ length (now a) ≡ 2 ⌝ }
+    requires { ⌜ Within 2048000 (now a) ⌝ }
+    ensures { λ _. ⌜ now (a .exit) ≡ spectrumOf (now (a .entry)) ⌝ }
+{
+    butterfly(a, 1);
+}
+
+// The spectrum of four numbers.
+fn four(a: &mut [i64])
     requires { ⌜ length (now a) ≡ 4 ⌝ }
     requires { ⌜ Within 2048000 (now a) ⌝ }
     ensures { λ _. ⌜ now (a .exit) ≡ spectrumOf (now (a .entry)) ⌝ }
 {
-    let p = a[0];
-    let q = a[1];
-    let r = a[2];
-    let s = a[3];
-    let low_sum = p + q;
-    let low_difference = p - q;
-    let high_sum = r + s;
-    let high_difference = r - s;
-    a[0] = low_sum + high_sum;
-    a[1] = low_difference + high_difference;
-    a[2] = low_sum - high_sum;
-    a[3] = low_difference - high_difference;
+    two(&mut a[..2]);
+    two(&mut a[2..]);
+    butterfly(a, 2);
+}
+
+// The spectrum of eight numbers.
+fn eight(a: &mut [i64])
+    requires { ⌜ length (now a) ≡ 8 ⌝ }
+    requires { ⌜ Within 2048000 (now a) ⌝ }
+    ensures { λ _. ⌜ now (a .exit) ≡ spectrumOf (now (a .entry)) ⌝ }
+{
+    four(&mut a[..4]);
+    four(&mut a[4..]);
+    butterfly(a, 4);
+}
+
+// The spectrum of sixteen numbers.
+fn sixteen(a: &mut [i64])
+    requires { ⌜ length (now a) ≡ 16 ⌝ }
+    requires { ⌜ Within 2048000 (now a) ⌝ }
+    ensures { λ _. ⌜ now (a .exit) ≡ spectrumOf (now (a .entry)) ⌝ }
+{
+    eight(&mut a[..8]);
+    eight(&mut a[8..]);
+    butterfly(a, 8);
 }
 
 // The spectrum of the 2^inputs numbers of `a`, in place.
@@ -55,8 +78,8 @@ pub fn transform(a: &mut [i64], inputs: u32)
     if inputs == 0 {
         return;
     }
-    if inputs == 2 {
-        quad(a);
+    if inputs == 4 {
+        sixteen(a);
         return;
     }
     let h = a.len() / 2;

@@ -3,6 +3,7 @@ use crate::Answer;
 ghost use mathlib.Core.Path.{_≡_};
 ghost use lib.ListN.{length};
 ghost use Rattle.walsh.specs.Answers.{inputsOf, firstOutside, screenOf};
+ghost use Rattle.walsh.specs.Steps.{anyOutside};
 
 // The number of inputs of a list of n numbers, or 0 where n is none of 2, 4 .. 2,048.
 pub fn inputs_of(n: usize) -> u32
@@ -24,10 +25,27 @@ pub fn inputs_of(n: usize) -> u32
     }
 }
 
+// Whether some number is not from low to high. It reads the whole list: without an early end the compiler tests several numbers at once.
+fn any_outside(list: &[i32], low: i32, high: i32) -> bool
+    ensures { λ r. ⌜ r ≡ anyOutside low high (now (list .entry)) ⌝ }
+{
+    let mut any = false;
+    let mut i: usize = 0;
+    while i < list.len() {
+        let z = list[i];
+        any = any | (z < low) | (high < z);
+        i += 1;
+    }
+    any
+}
+
 // The index of the first number that is not from low to high, or the length where there is none.
 pub fn first_outside(list: &[i32], low: i32, high: i32) -> usize
     ensures { λ r. ⌜ r ≡ firstOutside low high (now (list .entry)) ⌝ }
 {
+    if !any_outside(list, low, high) {
+        return list.len();
+    }
     let mut i: usize = 0;
     while i < list.len() {
         let z = list[i];

@@ -1,20 +1,22 @@
--- The measure is `inputs`. One number is its own spectrum, four are left to `quad`; of more, the two calls leave the halves' spectra,
+-- The measure is `inputs`. One number is its own spectrum, sixteen are left to `sixteen`; of more, the two calls leave the halves' spectra,
 -- and the butterfly merges them (`Merging`).
 use borrow.Author.Needs.{needs}
-use mathlib.Core.Path.{sym, ap, _∙_, subst}
+use mathlib.Core.Path.{sym, ap, _∙_}
 use mathlib.Core.List.{List}
-use Prim.Native.Nat.{ℕ, _<_, _-_, _^_}
+use Prim.Native.Nat.{ℕ, _<_, _≤_, _-_, _/_, _^_}
+use native.Mathlib.Nat.{pos-of-ne-zero}
 use native.Mathlib.Omega.{arith}
 use lib.IntN.{ℤ}
+use lib.ListN.{length}
 use lib.Seq.{length-take-le}
-use Rattle.walsh.proofs.Merging.{single, Call, less, first-asks, second-asks, butterfly-asks, butterfly-leaves}
+use Rattle.walsh.proofs.Merging.{single, Halved, halved, first-asks, second-asks, butterfly-asks, butterfly-leaves}
 use borrow.Fn.Kinds.{In}
 use borrow.Fn.PlainCycle.{Measures, is, falls, and}
 use Rattle.walsh.proofs.fast.transform.Reads as transform
 use Rattle.walsh.proofs.fast.transform.Kinds as transform-kinds
 use Rattle.walsh.proofs.fast.+transform.Lts-transform as lts
 use Rattle.walsh.proofs.fast.butterfly.Reads as butterfly
-use Rattle.walsh.proofs.fast.quad.Reads as quad
+use Rattle.walsh.proofs.fast.sixteen.Reads as sixteen
 use Rattle.walsh.proofs.fast.+transform.{statement}
 use Rattle.walsh.proofs.fast.+transform.Tie.{close}
 
@@ -29,7 +31,7 @@ below t = and 1 transform-kinds.ps (falls 1 transform-kinds.ps _<_ μ-transform 
 
 -- what the callees ask and ensure
 abbrev callees : ℕ → lts.Claims
-callees t = (quad.Asked, quad.Learnt, below t, transform.Post, butterfly.Asked, butterfly.Learnt)
+callees t = (sixteen.Asked, sixteen.Learnt, below t, transform.Post, butterfly.Asked, butterfly.Learnt)
 
 module _ (t : ℕ) where
   -- past both tests
@@ -40,28 +42,27 @@ module _ (t : ℕ) where
     abbrev K : ℕ
     K = e .before .before .args .inputs
 
-    call : Call A K
-    call = record {
-      above = e .before .if1 .left;
-      few = e .before .before .pre .1 .0;
-      long = e .before .before .pre .1 .1 .0;
-      small = e .before .before .pre .1 .1 .1;
-    }
+    halves : Halved A (length A / 2) (K - 1)
+    halves = let p = e .before .before .pre .1 in halved A K (e .before .if1 .left) (p .0) (p .1 .0) (p .1 .1)
 
+    -- a call on a half has one input less, so the measure falls
     falls-here : K - 1 < t
-    falls-here = subst (λ (m : ℕ). K - 1 < m) (e .before .before .pre .0) (less A K call)
+    falls-here = let k = pos-of-ne-zero (e .before .if1 .left) in omega arith
+
+    few-here : K - 1 ≤ 11
+    few-here = omega arith
 
   returns : lts.Need-returns (callees t) (at t) transform.Post
   returns c = single (c .before .args .a .now) (c .before .pre .1 .1 .0 ∙ ap (λ (m : ℕ). 2 ^ m) (c .if1 .taken))
 
-  quad-requires : lts.Need-quad-requires (callees t) (at t) transform.Post
-  quad-requires c κs = let s = c .before .before .before in (s .pre .1 .1 .0 ∙ ap (λ (m : ℕ). 2 ^ m) (c .before .if2 .taken), s .pre .1 .1 .1)
+  sixteen-requires : lts.Need-sixteen-requires (callees t) (at t) transform.Post
+  sixteen-requires c κs = let s = c .before .before .before in (s .pre .1 .1 .0 ∙ ap (λ (m : ℕ). 2 ^ m) (c .before .if2 .taken), s .pre .1 .1 .1)
 
   same-length : lts.Need-same-length (callees t) (at t) transform.Post
   same-length c = search needs
 
   returns-2 : lts.Need-returns-2 (callees t) (at t) transform.Post
-  returns-2 c = c .before .quad .ensures
+  returns-2 c = c .before .sixteen .ensures
 
   slice-relend-prefix-transform : lts.Need-slice-relend-prefix-transform (callees t) (at t) transform.Post
   slice-relend-prefix-transform c = search needs
@@ -73,7 +74,7 @@ module _ (t : ℕ) where
   sub-transform c = search needs
 
   transform-requires : lts.Need-transform-requires (callees t) (at t) transform.Post
-  transform-requires c κs = let e = c .before in (falls-here e, first-asks (A e) (K e) (call e))
+  transform-requires c κs = let e = c .before in let p = first-asks _ _ _ (halves e) in (falls-here e, (few-here e, (p .0 ∙ halves e .half, p .1)))
 
   mul-transform : lts.Need-mul-transform (callees t) (at t) transform.Post
   mul-transform c = search needs
@@ -94,14 +95,15 @@ module _ (t : ℕ) where
   transform-requires-2 c κs =
       let f = c .before .before in
       let e = f .before .before in
-      (falls-here e, second-asks (A e) (K e) (call e) (f .transform .last .0) (f .transform .ensures))
+      let p = second-asks _ _ _ (halves e) (f .transform .last .0) (f .transform .ensures) in
+      (falls-here e, (few-here e, (p .0 ∙ halves e .half, p .1)))
 
   butterfly-requires : lts.Need-butterfly-requires (callees t) (at t) transform.Post
   butterfly-requires c κs =
       let g = c .before .before in
       let f = g .before .before .before in
       let e = f .before .before in
-      butterfly-asks (A e) (K e) (call e) (f .transform .last .0) (f .transform .ensures) (g .transform2 .last .0) (g .transform2 .ensures)
+      butterfly-asks _ _ _ (halves e) (f .transform .last .0) (f .transform .ensures) (g .transform2 .last .0) (g .transform2 .ensures)
 
   same-length-2 : lts.Need-same-length-2 (callees t) (at t) transform.Post
   same-length-2 c = search needs
@@ -112,7 +114,7 @@ module _ (t : ℕ) where
       let f = g .before .before .before in
       let e = f .before .before in
       c .before .butterfly .ensures
-      ∙ butterfly-leaves (A e) (K e) (call e) (f .transform .last .0) (f .transform .ensures) (g .transform2 .last .0) (g .transform2 .ensures)
+      ∙ butterfly-leaves _ _ _ (halves e) (f .transform .last .0) (f .transform .ensures) (g .transform2 .last .0) (g .transform2 .ensures)
 
 pub +transform-spec : {M : Type 1} → statement M
 +transform-spec =
@@ -121,7 +123,7 @@ pub +transform-spec : {M : Type 1} → statement M
     (at t)
     transform.Post
     (returns t)
-    (quad-requires t)
+    (sixteen-requires t)
     (same-length t)
     (returns-2 t)
     (slice-relend-prefix-transform t)

@@ -67,7 +67,7 @@ array-share-prefix-lines : tie.Need-array-share-prefix-lines
 array-share-prefix-lines c = known (c .before .before .before .before .before) .few
 
 slice-aggregate-stick-all : tie.Need-slice-aggregate-stick-all
-slice-aggregate-stick-all c = as-many (c .before .before .before .before .before .before)
+slice-aggregate-stick-all c = sym (length-take-le _ _ (known (c .before .before .before .before .before .before) .few))
 
 stick-all-requires : tie.Need-stick-all-requires
 stick-all-requires c κs =

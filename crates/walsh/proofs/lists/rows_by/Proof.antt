@@ -36,8 +36,9 @@ divided-requires : tie.Need-divided-requires
 divided-requires c κs =
     let t = c .before .before .before in
     let coefficients = S t .args .coefficients .now in
-    let some : 1 ≤ length coefficients = omega (arith, pow-pos (S t .args .inputs), S t .pre .0 .1) in (
-      (some, power-few (length coefficients) (S t .args .inputs) (S t .pre .0 .0) (S t .pre .0 .1)),
+    let some : 1 ≤ length coefficients = omega (arith, pow-pos (S t .args .inputs), S t .pre .0 .1) in
+    let few = power-few (length coefficients) (S t .args .inputs) (S t .pre .0 .0) (S t .pre .0 .1) in (
+      (omega arith, omega arith),
       (omega arith, subst⁻¹ (λ (l : List ℤ). length l ≤ length (S t .args .out .now)) (transformed t) (omega (arith, length-spectrum coefficients, S t .pre .1 .1 .1))),
     )
 
