@@ -4,7 +4,7 @@ use walsh::Answer;
 use walsh::Found;
 ghost use mathlib.Core.Path.{_≡_};
 ghost use lib.ListN.{length};
-ghost use Rattle.walsh.specs.Answers.{numberOf, placeOf, leaves, foundOf, foundNumber, foundPlace, foundValue};
+ghost use Rattle.walsh.specs.Answers.{leaves, foundOf};
 ghost use Rattle.walsh.specs.Faults.{stuckOf, stuckAnswer, stuckSpectrumOf, openedAnswer, openedSpectrumOf};
 ghost use Rattle.walsh.specs.Lists.{spectrumAnswer, rowsAnswer, rowsOf};
 ghost use Rattle.walsh.specs.Spectrum.{spectrumOf};

@@ -1,6 +1,6 @@
 -- Document 01's examples marked •, those on lists, as one table. A case says what a call leaves for it, through the definitions that the
 -- calls' promises cite; cases of circuits and reports join as further constructors.
-use Prim.Native.Nat.{ℕ, _^_, _-_}
+use Prim.Native.Nat.{ℕ, _^_}
 use mathlib.Core.Path.{_≡_}
 use mathlib.Core.List.{List, [], _∷_}
 use lib.IntN.{ℤ, pos}

@@ -1,8 +1,8 @@
 -- The size of a 32-bit number, as the casts that print it compute it:
 --   widens, negates, size-below, size-above    the number and its negation fit 64 bits, and its size is what is printed
 use mathlib.Core.Path.{_≡_, sym, ap, _∙_, subst⁻¹}
-use mathlib.Core.Bool.{Bool, true, false}
-use Prim.Native.Nat.{ℕ, zero, suc, _+_, _^_, _≤_, _<_}
+use mathlib.Core.Bool.{true, false}
+use Prim.Native.Nat.{zero, suc, _^_, _≤_}
 use native.Mathlib.Omega.{arith}
 use lib.Dec.{T}
 use lib.IntN.{ℤ, pos, negsuc, negℤ, _-ℤ_, natAbs, +ℤ-idl}

@@ -2,11 +2,11 @@
 --   interchange, plus-minus, minus-minus      sums of four
 --   mul-add, mul-plus, mul-neg, mul-double    a natural multiple distributes
 --   mul-cancel                                a multiple by a number above 0 cancels
-use mathlib.Core.Path.{_≡_, refl, sym, ap, ap₂, _∙_, subst}
-use Prim.Native.Nat.{ℕ, zero, suc, _+_, _*_, _<_, _≤_}
+use mathlib.Core.Path.{_≡_, refl, sym, ap, ap₂, _∙_}
+use Prim.Native.Nat.{ℕ, zero, suc, _+_, _*_}
 use native.Mathlib.Nat.{zero-add, suc-add, suc-mul}
 use native.Mathlib.Omega.{arith}
-use lib.IntN.{ℤ, pos, negsuc, _+ℤ_, _-ℤ_, _*ℤ_, negℤ, natAbs, negℤ-negℤ, negℤ-+ℤ, +ℤ-assoc, +ℤ-comm, +ℤ-idl, +ℤ-idr, +ℤ-invr, +ℤ-invl, -ℤ-+ℤ-cancel, zero-*ℤ, sucℤ-*ℤ}
+use lib.IntN.{ℤ, pos, negsuc, _+ℤ_, _-ℤ_, _*ℤ_, negℤ, natAbs, negℤ-negℤ, negℤ-+ℤ, +ℤ-assoc, +ℤ-comm, +ℤ-idl, +ℤ-idr, +ℤ-invr, -ℤ-+ℤ-cancel, zero-*ℤ, sucℤ-*ℤ}
 
 pub interchange : (a b c d : ℤ) → (a +ℤ b) +ℤ (c +ℤ d) ≡ (a +ℤ c) +ℤ (b +ℤ d)
 interchange a b c d =

@@ -3,11 +3,11 @@
 --   add-fits, sub-fits    the sum fits the width
 --   add-is, sub-is        it is a + b
 --   add-kept, sub-kept    it is read back as a + b once it was stored
-use mathlib.Core.Path.{_≡_, refl, sym, ap, _∙_, subst, subst⁻¹}
-use Prim.Native.Nat.{ℕ, _+_, _^_, _≤_, _<_}
+use mathlib.Core.Path.{_≡_, ap, _∙_, subst⁻¹}
+use Prim.Native.Nat.{ℕ, _+_, _^_, _<_}
 use native.Mathlib.Nat.{lt-of-le-of-lt}
 use native.Mathlib.Omega.{arith}
-use lib.IntN.{ℤ, pos, _+ℤ_, _-ℤ_, natAbs}
+use lib.IntN.{ℤ, _+ℤ_, _-ℤ_, natAbs}
 use mir.Syntax.{Width}
 use mir.Val.{SFits, hbits, toZ, ofZ}
 use mir.ValLaws.{toZ-ofZ}

@@ -1,7 +1,7 @@
 -- Laws of `tab`:
 --   length-tab, getD-tab, tab-ext, tab-split, take-tab, tab-nth    its length, its elements, equal rules, two parts, its start, a list's own rule
 --   tab-step, tab-ahead                                  a loop that writes f i at i: one turn; what it has not reached is as it was
-use mathlib.Core.Path.{_≡_, refl, sym, ap, ap₂, _∙_, subst}
+use mathlib.Core.Path.{_≡_, refl, sym, ap, ap₂, _∙_}
 use mathlib.Core.List.{List, [], _∷_, _++_, append-assoc, append-nil}
 use Prim.Native.Nat.{ℕ, zero, suc, _+_, _-_, _≤_, _<_}
 use native.Mathlib.Nat.{add-zero, add-suc, lt-of-not-le}

@@ -5,10 +5,10 @@
 --   put-shows, put-keeps    the digit has the value, and every other digit is as it was
 --   add-below    where digit b is 0, adding 2 ^ b stays below 2 ^ k
 --   digit-beyond    and changes no digit above b
-use mathlib.Core.Path.{_≡_, refl, sym, ap, ap₂, _∙_, subst}
-use mathlib.Core.Logic.{_⊎_, inl, inr, ⊎-elim}
+use mathlib.Core.Path.{_≡_, sym, ap, ap₂, _∙_, subst}
+use mathlib.Core.Logic.{⊎-elim}
 use Prim.Native.Nat.{ℕ, zero, suc, _+_, _*_, _-_, _/_, _%_, _^_, _≤_, _<_}
-use native.Mathlib.Nat.{lt-of-not-le, div-eq-of-lt, mod-eq-of-lt, add-mul-div-right, add-mul-mod-self-right, mul-assoc, mul-comm, add-assoc, add-comm, pow-suc, zero-mul, one-mul, add-mul, mod-lt, div-add-mod'}
+use native.Mathlib.Nat.{lt-of-not-le, div-eq-of-lt, mod-eq-of-lt, add-mul-div-right, add-mul-mod-self-right, mul-assoc, mul-comm, add-assoc, pow-suc, zero-mul, one-mul, add-mul, mod-lt}
 use native.Mathlib.Decide.{decLe}
 use native.Mathlib.Omega.{arith}
 use lib.Arith.{lt-of-le-ne}

@@ -6,7 +6,7 @@
 use mathlib.Core.Path.{_≡_, refl, sym, ap, _∙_}
 use mathlib.Core.List.{List}
 use mathlib.Core.Bool.{Bool, true}
-use Prim.Native.Nat.{ℕ, suc, _+_, _*_, _-_, _/_, _%_, _^_, _≤_, _<_}
+use Prim.Native.Nat.{ℕ, _+_, _-_, _^_, _≤_, _<_}
 use native.Mathlib.Omega.{arith}
 use lib.IntN.{ℤ, pos}
 use lib.ListN.{length}
@@ -18,11 +18,11 @@ use Rattle.walsh.specs.Spectrum.{spectrumOf}
 use Rattle.walsh.specs.declared.Answer.{Answer}
 use Rattle.walsh.specs.declared.Answer.the-variants.{Done, Refused}
 use Rattle.walsh.proofs.Arguments.{stuck-right-means, opened-right-means, rising-rises, binary-values, binary-bits}
-use Rattle.walsh.proofs.Digits.{put, put-shows, put-keeps}
+use Rattle.walsh.proofs.Digits.{put-shows, put-keeps}
 use Rattle.walsh.proofs.Opening.{opened-spectrum, opened-divides}
-use Rattle.walsh.proofs.Screens.{ready, inputs-power, screen-not-11}
+use Rattle.walsh.proofs.Screens.{ready, inputs-power, screen-not-11, first-passed}
 use Rattle.walsh.proofs.Spectra.{length-spectrum}
-use Rattle.walsh.proofs.Sticking.{stuck-spectrum}
+use Rattle.walsh.proofs.Sticking.{stuck-spectrum, replaced-put}
 
 -- a spectrum is as long as its rows
 rows-inputs : (rows : List ℤ) → inputsOf (length (spectrumOf rows)) ≡ inputsOf (length rows)
@@ -81,21 +81,13 @@ opened-never-11 rows values room = go (screened (spectrumOf rows) values room) r
 pub opened-faulted : (rows : List ℤ) (values : List ℕ) (room : ℕ) → openedAnswer (spectrumOf rows) values room ≡ Done
     → openedSpectrumOf (spectrumOf rows) values ≡ spectrumOf (openedRows (keptInputs rows values) values rows)
 unfolding openedAnswer
-opened-faulted rows values room e = opened-is rows values (right-of rows values room (passed (screened (spectrumOf rows) values room) _ e))
-  where
-    passed : (a b : Answer) → andThen a b ≡ Done → a ≡ Done
-    passed Done b e = refl
-    passed (Refused number place) b e = e
+opened-faulted rows values room e = opened-is rows values (right-of rows values room (first-passed (screened (spectrumOf rows) values room) _ e))
 
 -- What replacing an input does to a row.
 
 module _ (s : Stuck) (first : 1 ≤ s .line) where
-  is-put : (x : ℕ) → replaced s x ≡ put (s .line - 1) (s .value) x
-  is-put x = let e : s .line ≡ suc (s .line - 1) = omega arith in
-      ap (λ (n : ℕ). x / 2 ^ n * 2 ^ n + s .value * 2 ^ (s .line - 1) + x % 2 ^ (s .line - 1)) e
-
   pub replaced-shows : (x : ℕ) → s .value < 2 → bitOf (s .line) (replaced s x) ≡ s .value
-  replaced-shows x h = ap (bitOf (s .line)) (is-put x) ∙ put-shows (s .line - 1) (s .value) x h
+  replaced-shows x h = ap (bitOf (s .line)) (replaced-put s first x) ∙ put-shows (s .line - 1) (s .value) x h
 
   pub replaced-keeps : (i x : ℕ) → 1 ≤ i → (i ≡ s .line → ⊥) → s .value < 2 → bitOf i (replaced s x) ≡ bitOf i x
-  replaced-keeps i x l other h = ap (bitOf i) (is-put x) ∙ put-keeps (s .line - 1) (s .value) x h (i - 1) (λ e. other (omega arith))
+  replaced-keeps i x l other h = ap (bitOf i) (replaced-put s first x) ∙ put-keeps (s .line - 1) (s .value) x h (i - 1) (λ e. other (omega arith))

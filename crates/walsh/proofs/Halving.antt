@@ -2,7 +2,7 @@
 --   sum-low, sum-high      a spectrum is made of the spectra of the two halves: at a label below 2 ^ k their sum, at 2 ^ k more their difference
 --   sum-add, sum-sub, sum-scale, sum-equal    the signed sum is linear
 --   twice                  applied twice it gives 2 ^ k times the values
-use mathlib.Core.Path.{_≡_, refl, sym, ap, ap₂, _∙_, subst}
+use mathlib.Core.Path.{_≡_, sym, ap, ap₂, _∙_}
 use mathlib.Core.Logic.{_⊎_, inl, inr, ⊎-elim}
 use Prim.Native.Nat.{ℕ, zero, suc, _+_, _*_, _-_, _%_, _^_, _≤_, _<_}
 use native.Mathlib.Nat.{lt-of-not-le, pow-suc}

@@ -2,7 +2,7 @@
 --   single, pair, merge    one number is its own spectrum; of two it is their butterfly; two halves are merged by the butterfly
 --   Halved, with first-asks, second-asks, butterfly-asks, butterfly-leaves    what the slice holds between two calls on its halves
 --   halved                 a slice of 2 ^ k numbers, k above 0, has such halves
-use mathlib.Core.Path.{_≡_, refl, sym, ap, ap₂, _∙_, subst, subst⁻¹}
+use mathlib.Core.Path.{_≡_, refl, sym, ap, ap₂, _∙_, subst⁻¹}
 use mathlib.Core.List.{List, [], _∷_, _++_, append-nil}
 use Prim.Native.Nat.{ℕ, suc, _+_, _-_, _/_, _^_, _≤_, _<_}
 use native.Mathlib.Nat.{pos-of-ne-zero}

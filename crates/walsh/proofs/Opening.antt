@@ -7,7 +7,7 @@
 use mathlib.Core.Path.{_≡_, refl, sym, ap, ap₂, _∙_, subst}
 use mathlib.Core.List.{List, [], _∷_}
 use mathlib.Core.Bool.{Bool, true, false, cond}
-use Prim.Native.Nat.{ℕ, zero, suc, _+_, _*_, _-_, _/_, _%_, _^_, _≤_, _<_}
+use Prim.Native.Nat.{ℕ, suc, _+_, _*_, _-_, _%_, _^_, _≤_, _<_}
 use native.Mathlib.Nat.{le-trans, div-eq-of-lt, div-le-of-le-mul}
 use native.Mathlib.Omega.{arith}
 use lib.Dec.{eqb, ltb}
@@ -24,7 +24,7 @@ use Rattle.integer.proofs.Firsts.{first-ext}
 use Rattle.integer.proofs.Group.{mul-plus, mul-double, mul-one}
 use Rattle.integer.proofs.Sums.{signed-scale}
 use Rattle.integer.proofs.Tabs.{length-tab, getD-tab, tab-ext, take-tab}
-use Rattle.walsh.specs.Spectrum.{signedSum, coefficientOf, spectrumOf}
+use Rattle.walsh.specs.Spectrum.{signedSum, spectrumOf}
 use Rattle.walsh.specs.Answers.{choose, minus, inputsOf, outside}
 use Rattle.walsh.specs.Lists.{quotientOf, quotientAt, quotientsOf, unfit, unfitAt, firstUnfit, dividedAnswer}
 use Rattle.walsh.specs.declared.Answer.{Answer}

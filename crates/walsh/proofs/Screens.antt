@@ -1,5 +1,5 @@
 -- The tests that every call on a list begins with:
---   inputs-power, -most, -size, -is             of `inputsOf`: the list has 2 ^ k numbers, at most 2,048, and each k from 1 to 11 is found
+--   inputs-power, -most, -size, -is, power-few  of `inputsOf`: the list has 2 ^ k numbers, at most 2,048, and each k from 1 to 11 is found
 --   none-more                                   where the list has not 2 ^ (m + 1) numbers, fewer inputs are to be tried
 --   outside-low, -high, -none                   of `outside`: by its two tests
 --   outside-small, small-outside                not outside -B .. B means a size of at most B
@@ -8,7 +8,9 @@
 --   any-turn, any-all                           what a loop that tests every number has found
 --   screened-within, within-screened            no number outside -B .. B means a list within B
 --   Screened, screen-done, done-screen          what the answer Done of `screenOf` means
+--   Ready, ready                                and what a call knows by it
 --   screen-unsized, -wrong, -outside, -short    its refusals, in their order
+--   screen-not-11, screen-due, first-passed     11 is none of them, what is due counts only for right arguments, tests behind it
 use mathlib.Core.Path.{_≡_, refl, sym, ap, ap₂, _∙_}
 use mathlib.Core.List.{List}
 use mathlib.Core.Bool.{Bool, true, false, cond, _||_}
@@ -20,6 +22,7 @@ use native.Mathlib.Omega.{arith}
 use lib.Dec.{eqb, ltb}
 use lib.IntN.{ℤ, pos, negsuc, negℤ, natAbs}
 use lib.ListN.{length}
+use lib.Pow.{pow-mono}
 use lib.Signed.{ltZ}
 use mir.Syntax.{w32}
 use mir.Val.{SFits, toZ, ofZ}
@@ -28,8 +31,9 @@ use borrow.Author.Tests.{ltb-false, lt-ltb, le-ltb, eqb-true, eqb-false, eq-eqb,
 use Rattle.integer.specs.Tab.{nth, Within}
 use Rattle.integer.proofs.Firsts.{clash, first-hit, first-none, first-all}
 use Rattle.integer.proofs.Group.{natAbs-neg}
+use Rattle.walsh.specs.declared.Answer.{Answer}
 use Rattle.walsh.specs.declared.Answer.the-variants.{Done, Refused}
-use Rattle.walsh.specs.Answers.{numberOf, choose, inputsTo, inputsOf, outside, outsideAt, firstOutside, screenOf}
+use Rattle.walsh.specs.Answers.{numberOf, andThen, choose, inputsTo, inputsOf, outside, outsideAt, firstOutside, screenOf}
 use Rattle.walsh.specs.Steps.{anyWhere, anyOutside}
 
 -- The number of inputs.
@@ -60,8 +64,11 @@ pub inputs-most : (n : ℕ) → inputsOf n ≤ 11
 unfolding inputsOf
 inputs-most n = most-to 11 n
 
+pub power-few : (n k : ℕ) → k ≤ 11 → n ≡ 2 ^ k → n ≤ 2048
+power-few n k h e = let m : 2 ^ k ≤ 2 ^ 11 = pow-mono {j = 11} h in omega arith
+
 pub inputs-size : (n : ℕ) → 0 < inputsOf n → n ≤ 2048
-inputs-size n h = omega (arith, inputs-power n h, pow-le-pow-right {n = 2} (omega arith) (inputs-most n))
+inputs-size n h = power-few n (inputsOf n) (inputs-most n) (inputs-power n h)
 
 -- where the list has not 2 ^ (m + 1) numbers, m inputs at most are to be tried
 pub none-more : (m n : ℕ) → (n ≡ 2 ^ suc m → ⊥) → inputsTo (suc m) n ≡ inputsTo m n
@@ -226,7 +233,12 @@ screen-done low high test l room due e = go (eqb (inputsOf (length l)) 0) refl t
     go false ea false et b eb c ec e = never 12 0 e
     go true ea t et b eb c ec e = never 9 0 e
 
--- 11 is not among them
+-- where tests after others give Done, the first did
+pub first-passed : (a b : Answer) → andThen a b ≡ Done → a ≡ Done
+first-passed Done b e = refl
+first-passed (Refused number place) b e = e
+
+-- 11 is not among the refusals of the screen
 pub screen-not-11 : (low high : ℤ) (test : Bool) (l : List ℤ) (room due : ℕ) → numberOf (screenOf low high test l room due) ≡ 11 → ⊥
 unfolding screenOf
 screen-not-11 low high test l room due = go (eqb (inputsOf (length l)) 0) test (ltb (firstOutside low high l) (length l)) (ltb room due)

@@ -1,15 +1,13 @@
 -- The spectrum of a list as a list:
 --   length-spectrum, nth-spectrum    its length and its numbers
 --   spectrum-tab, spectrum-rule      its rule, and the spectrum of a list that is made by a rule
---   power-few                        2 ^ k is at most 2,048, for k at most 11
 --   within-spectrum                  its numbers are at most the length times as large as the rows
 use mathlib.Core.Path.{_≡_, refl, sym, ap, _∙_, subst}
 use mathlib.Core.List.{List}
-use Prim.Native.Nat.{ℕ, _*_, _^_, _≤_, _<_}
+use Prim.Native.Nat.{ℕ, _*_, _≤_, _<_}
 use native.Mathlib.Omega.{arith}
 use lib.IntN.{ℤ, pos, natAbs}
 use lib.ListN.{length}
-use lib.Pow.{pow-mono}
 use Rattle.integer.specs.Tab.{tab, nth, Within}
 use Rattle.integer.proofs.Tabs.{length-tab, getD-tab, tab-ext}
 use Rattle.walsh.specs.Spectrum.{signedSum, coefficientOf, spectrumOf}
@@ -34,6 +32,3 @@ spectrum-rule n f =
 pub within-spectrum : (B : ℕ) (a : List ℤ) → Within B a → Within (length a * B) (spectrumOf a)
 within-spectrum B a w x l =
     subst (λ (z : ℤ). natAbs z ≤ length a * B) (sym (nth-spectrum a (length a) x refl (omega (arith, length-spectrum a)))) (partial-le B (length a) (nth a) x w)
-
-pub power-few : (n k : ℕ) → k ≤ 11 → n ≡ 2 ^ k → n ≤ 2048
-power-few n k h e = let m : 2 ^ k ≤ 2 ^ 11 = pow-mono {j = 11} h in omega arith

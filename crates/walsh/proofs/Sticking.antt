@@ -4,27 +4,26 @@
 --   stuck-spectrum     on a spectrum of rows the formula equals the spectrum of the rows with the stuck inputs replaced
 --   within-stuck       the formula's numbers are at most 2 ^ k times as large as the coefficients
 use mathlib.Core.Path.{_≡_, refl, sym, ap, ap₂, _∙_, subst}
-use mathlib.Core.Logic.{_⊎_, inl, inr, ⊎-elim}
+use mathlib.Core.Logic.{⊎-elim}
 use mathlib.Core.List.{List, [], _∷_}
 use mathlib.Core.Bool.{Bool, true, false, cond}
 use Prim.Native.Nat.{ℕ, zero, suc, _+_, _*_, _-_, _/_, _%_, _^_, _≤_, _<_, zero-le}
-use native.Mathlib.Nat.{lt-of-not-le, le-trans, le-refl, add-le-add, add-mul, mul-le-mul-right, one-mul, zero-mul, zero-add}
+use native.Mathlib.Nat.{lt-of-not-le, le-trans, add-mul, mul-le-mul-right, one-mul, zero-mul, zero-add}
 use native.Mathlib.Decide.{decLe}
 use native.Mathlib.Omega.{arith}
-use lib.Dec.{eqb, leb, ltb}
-use lib.IntN.{ℤ, pos, _+ℤ_, _-ℤ_, negℤ, natAbs, negℤ-+ℤ, negℤ-negℤ, +ℤ-invr, +ℤ-idl}
-use lib.ListN.{length, getD, List·getD-eq-default}
+use lib.Dec.{eqb}
+use lib.IntN.{ℤ, pos, _+ℤ_, _-ℤ_, negℤ, natAbs, negℤ-+ℤ, +ℤ-invr}
+use lib.ListN.{length, List·getD-eq-default}
 use lib.Pow.{pow-mono}
-use borrow.Author.Tests.{eq-eqb, ne-eqb, eqb-true, ltb-true, leb-true}
+use borrow.Author.Tests.{eq-eqb, ne-eqb, eqb-true}
 use Rattle.integer.specs.Sum.{signed}
 use Rattle.integer.specs.Tab.{tab, nth, Within}
 use Rattle.integer.proofs.Bounds.{natAbs-add, natAbs-signed}
-use Rattle.integer.proofs.Firsts.{clash}
 use Rattle.integer.proofs.Group.{interchange, plus-minus, minus-minus}
 use Rattle.integer.proofs.Sums.{signed-add}
 use Rattle.integer.proofs.Tabs.{length-tab, getD-tab, tab-ext, tab-nth}
-use Rattle.walsh.specs.Spectrum.{signedSum, coefficientOf, spectrumOf}
-use Rattle.walsh.specs.Faults.{Stuck, stuckOf, bitOf, names, subsetSum, stuckAt, stuckSpectrumOf, rising, binary, replaced, replacedAll, stuckRow, stuckRows}
+use Rattle.walsh.specs.Spectrum.{signedSum, spectrumOf}
+use Rattle.walsh.specs.Faults.{Stuck, bitOf, names, subsetSum, stuckAt, stuckSpectrumOf, replaced, replacedAll, stuckRow, stuckRows}
 use Rattle.walsh.specs.Steps.{stuckOnceAt, stuckOnce}
 use Rattle.walsh.proofs.Digits.{digit, put, put-low-half, put-high-half, put-above, digit-low-half, digit-high-half, digit-above, put-below, add-below, digit-beyond}
 use Rattle.walsh.proofs.Spectra.{length-spectrum, nth-spectrum, spectrum-rule}
@@ -163,23 +162,18 @@ stuck-sum (suc k) b v hb hv f y h = pick (λ g. stuck-sum k b v g hv) (decLe k b
 
 -- One input of a list.
 
--- input i of 2 ^ k rows is digit i - 1, which is below k
-module _ (s : Stuck) (k : ℕ) (first : 1 ≤ s .line) (last : s .line ≤ k) where
-  line-is : s .line ≡ suc (s .line - 1)
-  line-is = omega arith
-
-  digit-below : s .line - 1 < k
-  digit-below = omega arith
-
-  replaced-put : (x : ℕ) → replaced s x ≡ put (s .line - 1) (s .value) x
-  replaced-put x = ap (λ (n : ℕ). x / 2 ^ n * 2 ^ n + s .value * 2 ^ (s .line - 1) + x % 2 ^ (s .line - 1)) line-is
-
-  pub replaced-below : (x : ℕ) → x < 2 ^ k → s .value < 2 → replaced s x < 2 ^ k
-  replaced-below x h hv = subst (λ (n : ℕ). n < 2 ^ k) (sym (replaced-put x)) (put-below k (s .line - 1) (s .value) x digit-below hv h)
+-- input i is digit i - 1
+pub replaced-put : (s : Stuck) → 1 ≤ s .line → (x : ℕ) → replaced s x ≡ put (s .line - 1) (s .value) x
+replaced-put s first x =
+    let e : s .line ≡ suc (s .line - 1) = omega arith in
+    ap (λ (n : ℕ). x / 2 ^ n * 2 ^ n + s .value * 2 ^ (s .line - 1) + x % 2 ^ (s .line - 1)) e
 
 module _ (s : Stuck) (k : ℕ) (first : 1 ≤ s .line) (last : s .line ≤ k) where
   abbrev b : ℕ
   b = s .line - 1
+
+  pub replaced-below : (x : ℕ) → x < 2 ^ k → s .value < 2 → replaced s x < 2 ^ k
+  replaced-below x h hv = subst (λ (n : ℕ). n < 2 ^ k) (sym (replaced-put s first x)) (put-below k b (s .value) x (omega arith) hv h)
 
   -- a rule read at a label and at the one above
   once-rule : (a : List ℤ) (f : ℕ → ℤ) → length a ≡ 2 ^ k → ((x : ℕ) → x < 2 ^ k → nth a x ≡ f x)
@@ -198,7 +192,7 @@ module _ (s : Stuck) (k : ℕ) (first : 1 ≤ s .line) (last : s .line ≤ k) wh
       stuck-rule (spectrumOf rows) (signedSum (2 ^ k) (nth rows)) (length-spectrum rows ∙ e)
       (λ x h. nth-spectrum rows (2 ^ k) x e h)
       ∙ tab-ext (2 ^ k) _ _ (λ y h. sym (stuck-sum k b (s .value) (omega arith) hv (nth rows) y h)
-      ∙ sum-equal (2 ^ k) _ _ y (λ x g. ap (nth rows) (sym (replaced-put s k first last x))))
+      ∙ sum-equal (2 ^ k) _ _ y (λ x g. ap (nth rows) (sym (replaced-put s first x))))
       ∙ ap (λ (n : ℕ). tab n (signedSum n (λ x. nth rows (replaced s x)))) (sym e)
       ∙ sym (spectrum-rule (length rows) (λ x. nth rows (replaced s x)))
 

@@ -6,21 +6,16 @@
 use mathlib.Core.Path.{_≡_, refl, sym, ap, ap₂, _∙_, subst}
 use mathlib.Core.List.{List}
 use mathlib.Core.Logic.{_↔_, _⊎_, inl, inr, ⊎-elim}
-use mathlib.Core.Bool.{Bool, true, false, cond}
-use Prim.Native.Nat.{ℕ, zero, suc, _+_, _*_, _%_, _^_, _≤_, _<_}
-use native.Mathlib.Nat.{mul-le-mul-right}
+use mathlib.Core.Bool.{Bool, true, false}
+use Prim.Native.Nat.{ℕ, zero, suc, _*_, _^_, _≤_, _<_}
 use native.Mathlib.Omega.{arith}
-use lib.Dec.{eqb, ltb}
-use lib.IntN.{ℤ, pos, _*ℤ_, negℤ, natAbs}
+use lib.Dec.{ltb}
+use lib.IntN.{ℤ, pos, _*ℤ_, natAbs}
 use lib.ListN.{length}
 use lib.Pow.{pow-mono, pow-pos}
-use lib.Seq.{ext-getD}
-use lib.Signed.{quotZ}
-use borrow.Author.Tests.{eq-eqb, eqb-true, lt-ltb, le-ltb, ltb-true, ltb-false}
 use Rattle.integer.specs.Tab.{tab, nth, Within}
 use Rattle.integer.proofs.Bounds.{within-more}
 use Rattle.integer.proofs.Division.{quot-exact, quot-multiple, multiple-mod}
-use Rattle.integer.proofs.Firsts.{clash, first-none, first-all}
 use Rattle.integer.proofs.Group.{mul-cancel}
 use Rattle.integer.proofs.Tabs.{length-tab, getD-tab, tab-ext, tab-nth}
 use Rattle.walsh.specs.Spectrum.{signedSum, spectrumOf}
@@ -30,7 +25,7 @@ use Rattle.walsh.specs.declared.Answer.{Answer}
 use Rattle.walsh.specs.declared.Answer.the-variants.{Done, Refused}
 use Rattle.walsh.proofs.Halving.{sum-equal, sum-scale, twice}
 use Rattle.walsh.proofs.Quotients.{unfit-whole, unfit-divides, unfit-inside, divided-done, done-divided}
-use Rattle.walsh.proofs.Screens.{Screened, screen-done, done-screen, screened-within, within-screened, inputs-power, inputs-most, outside-small, small-outside}
+use Rattle.walsh.proofs.Screens.{Screened, first-passed, screen-done, done-screen, screened-within, within-screened, inputs-power, inputs-most, outside-small, small-outside}
 use Rattle.walsh.proofs.Spectra.{length-spectrum, nth-spectrum, spectrum-rule, within-spectrum}
 
 -- The sums of a spectrum's coefficients are 2 ^ k times the rows.
@@ -198,12 +193,8 @@ pub redo : (c : List ℤ) (room : ℕ) → rowsAnswer c room ≡ Done → (spect
 unfolding spectrumAnswer rowsAnswer
 redo c room e = (taken, met .1)
   where
-    before : (a b : Answer) → andThen a b ≡ Done → a ≡ Done
-    before Done b e = refl
-    before (Refused n p) b e = e
-
     passed : screened c room ≡ Done
-    passed = before (screened c room) (dividedAnswer (length c) (minus 1000) (pos 1000) (spectrumOf c)) e
+    passed = first-passed (screened c room) (dividedAnswer (length c) (minus 1000) (pos 1000) (spectrumOf c)) e
 
     known : Screened (minus 2048000) (pos 2048000) true c room (length c)
     known = tests c room passed

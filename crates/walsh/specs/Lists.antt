@@ -3,7 +3,7 @@
 --   signed sum divided by the length." 11: "a sum that does not divide, or gives a row out of range; the first".
 use Prim.Native.Nat.{ℕ, _%_}
 use mathlib.Core.List.{List}
-use mathlib.Core.Bool.{Bool, true, false, cond}
+use mathlib.Core.Bool.{Bool, true, cond}
 use lib.IntN.{ℤ, pos, natAbs}
 use lib.Dec.{eqb, ltb}
 use lib.ListN.{length}
@@ -11,7 +11,7 @@ use lib.Signed.{quotZ}
 use Rattle.integer.specs.First.{firstWhere}
 use Rattle.integer.specs.Tab.{tab, nth}
 use Rattle.walsh.specs.Answers.{choose, andThen, minus, outside, screenOf}
-use Rattle.walsh.specs.Spectrum.{coefficientOf, spectrumOf}
+use Rattle.walsh.specs.Spectrum.{spectrumOf}
 use Rattle.walsh.specs.declared.Answer.{Answer}
 use Rattle.walsh.specs.declared.Answer.the-variants.{Done, Refused}
 

@@ -1,6 +1,6 @@
 // The whole spectrum in place, by sums and differences of halves.
 ghost use mathlib.Core.Path.{_≡_};
-ghost use Prim.Native.Nat.{ℕ, _+_, _^_, _≤_};
+ghost use Prim.Native.Nat.{_+_, _^_, _≤_};
 ghost use lib.ListN.{length};
 ghost use Rattle.integer.specs.Tab.{Within};
 ghost use Rattle.walsh.specs.Spectrum.{spectrumOf};

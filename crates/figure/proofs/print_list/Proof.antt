@@ -1,15 +1,10 @@
-use borrow.Author.Needs.{needs}
 -- The measure is what is left of the list; the byte strings keep their length.
-use native.Mathlib.Omega.{arith}
+use borrow.Author.Needs.{needs}
 use Prim.Native.Nat.{_≤_, _-_}
-use mathlib.Core.Path.{_≡_, refl}
+use mathlib.Core.Path.{_≡_}
 use lib.ListN.{length}
 use Rattle.figure.proofs.print_list.Statement.{statement}
 use Rattle.figure.proofs.print_list.Tie as tie
-use Rattle.figure.proofs.print_list.Reads as reads
-use Rattle.figure.proofs.print_list.Lts as lts
-use Rattle.figure.proofs.print_number.Reads as print-number-reads
-use Rattle.io.proofs.write_all.Reads as write-all-reads
 
 abbrev Inv-loop : tie.InvT-loop
 Inv-loop word list i₀ t5 t6 i = (i ≤ length list) × (1 ≡ length t5) × (1 ≡ length t6)
@@ -17,55 +12,42 @@ Inv-loop word list i₀ t5 t6 i = (i ≤ length list) × (1 ≡ length t5) × (1
 abbrev μ-loop : tie.MeasureT-loop
 μ-loop word list i₀ t5 t6 i = length list - i
 
--- src/main.rt:16:5
 write-all-requires : tie.Need-write-all-requires Inv-loop μ-loop
 write-all-requires c κs = search needs
 
--- src/main.rt:18:5
 loop-holds : tie.Need-loop-holds Inv-loop μ-loop
 loop-holds c = search needs
 
--- src/main.rt:19:38
 slice-aggregate-write-all : tie.Need-slice-aggregate-write-all Inv-loop μ-loop
 slice-aggregate-write-all c = search needs
 
--- src/main.rt:19:9
 write-all-requires-2 : tie.Need-write-all-requires-2 Inv-loop μ-loop
 write-all-requires-2 c κs = search needs
 
--- src/main.rt:20:17
 mul-z : tie.Need-mul-z Inv-loop μ-loop
 mul-z c = search needs
 
--- src/main.rt:20:17
 shared-slice-copy-out-z : tie.Need-shared-slice-copy-out-z Inv-loop μ-loop
 shared-slice-copy-out-z c = search needs
 
--- src/main.rt:21:9
 print-number-requires : tie.Need-print-number-requires Inv-loop μ-loop
 print-number-requires c κs = search needs
 
--- src/main.rt:22:9
 add-i : tie.Need-add-i Inv-loop μ-loop
 add-i c = search needs
 
--- src/main.rt:18:5
 loop-less : tie.Need-loop-less Inv-loop μ-loop
 loop-less c = search needs
 
--- src/main.rt:18:5
 loop-again : tie.Need-loop-again Inv-loop μ-loop
 loop-again c = search needs
 
--- src/main.rt:24:34
 slice-aggregate-write-all-2 : tie.Need-slice-aggregate-write-all-2 Inv-loop μ-loop
 slice-aggregate-write-all-2 c = search needs
 
--- src/main.rt:24:5
 write-all-requires-3 : tie.Need-write-all-requires-3 Inv-loop μ-loop
 write-all-requires-3 c κs = search needs
 
--- src/main.rt:15:1
 returns : tie.Need-returns Inv-loop μ-loop
 returns c = search needs
 

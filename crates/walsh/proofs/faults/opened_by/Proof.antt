@@ -1,7 +1,7 @@
 -- The working numbers hold the coefficients, then the stuck-input formula's numbers for the lines behind the kept inputs, of which the first
 -- 2 ^ kept are the sums over the opened lines. These are divided by 2 ^ k.
 use borrow.Author.Needs.{needs}
-use Prim.Native.Nat.{ℕ, _+_, _*_, _%_, _^_, _≤_, _<_}
+use Prim.Native.Nat.{ℕ, _+_, _*_, _%_, _^_, _≤_}
 use mathlib.Core.Path.{_≡_, sym, ap, ap₂, _∙_, subst⁻¹}
 use mathlib.Core.Bool.{true}
 use mathlib.Core.List.{List, [], _∷_}
@@ -12,7 +12,7 @@ use lib.Pow.{pow-pos, pow-mono}
 use lib.Seq.{length-take-le}
 use Rattle.integer.specs.Tab.{Within}
 use Rattle.walsh.specs.Answers.{leaves, minus, inputsOf}
-use Rattle.walsh.specs.Faults.{stuckOf, stuckSpectrumOf, rising, linesAfter}
+use Rattle.walsh.specs.Faults.{stuckSpectrumOf, rising, linesAfter}
 use Rattle.walsh.specs.Lists.{dividedAnswer, quotientsOf}
 use Rattle.walsh.proofs.Arguments.{OpenedCall, opened-call, lines-after, rising-after}
 use Rattle.walsh.proofs.OneStuck.{bit-is}

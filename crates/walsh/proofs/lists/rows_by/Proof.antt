@@ -1,6 +1,6 @@
 -- The working numbers hold the coefficients, then their signed sums, which are divided by the length.
 use borrow.Author.Needs.{needs}
-use Prim.Native.Nat.{ℕ, _^_, _≤_}
+use Prim.Native.Nat.{_^_, _≤_}
 use mathlib.Core.Path.{_≡_, ap, _∙_, subst⁻¹}
 use mathlib.Core.List.{List}
 use native.Mathlib.Omega.{arith}
@@ -11,7 +11,8 @@ use Rattle.integer.specs.Tab.{Within}
 use Rattle.walsh.specs.Answers.{leaves, minus}
 use Rattle.walsh.specs.Lists.{dividedAnswer, quotientsOf, rowsOf}
 use Rattle.walsh.specs.Spectrum.{spectrumOf}
-use Rattle.walsh.proofs.Spectra.{length-spectrum, power-few}
+use Rattle.walsh.proofs.Spectra.{length-spectrum}
+use Rattle.walsh.proofs.Screens.{power-few}
 use Rattle.walsh.proofs.lists.rows_by.Statement.{statement}
 use Rattle.walsh.proofs.lists.rows_by.Tie as tie
 

@@ -1,7 +1,7 @@
 -- The working numbers hold the rows, then their spectrum, which is small enough to be copied out.
 use borrow.Author.Needs.{needs}
-use Prim.Native.Nat.{ℕ, _*_, _^_, _≤_}
-use mathlib.Core.Path.{_≡_, sym, ap, _∙_, subst⁻¹}
+use Prim.Native.Nat.{_^_, _≤_}
+use mathlib.Core.Path.{_≡_, ap, _∙_, subst⁻¹}
 use mathlib.Core.List.{List}
 use native.Mathlib.Omega.{arith}
 use lib.IntN.{ℤ}
@@ -10,7 +10,8 @@ use Rattle.integer.specs.Tab.{Within}
 use Rattle.integer.proofs.Bounds.{within-more}
 use Rattle.walsh.specs.Answers.{written}
 use Rattle.walsh.specs.Spectrum.{spectrumOf}
-use Rattle.walsh.proofs.Spectra.{length-spectrum, within-spectrum, power-few}
+use Rattle.walsh.proofs.Spectra.{length-spectrum, within-spectrum}
+use Rattle.walsh.proofs.Screens.{power-few}
 use Rattle.walsh.proofs.lists.spectrum_by.Statement.{statement}
 use Rattle.walsh.proofs.lists.spectrum_by.Tie as tie
 
