@@ -26,7 +26,8 @@ use borrow.Author.Tests.{ltb-true, leb-true, eqb-true, lt-ltb, le-ltb, le-leb, l
 use Rattle.integer.specs.Sum.{signed}
 use Rattle.integer.proofs.Firsts.{clash}
 use Rattle.walsh.specs.Answers.{inputsOf}
-use Rattle.walsh.specs.Faults.{keptInputs, stuckOf, rising, binary, fewOf, stuckRight, openedRight, keptOf, linesAfter}
+use Rattle.walsh.specs.Faults.{keptInputs, stuckOf, rising, binary, fewOf, stuckRight, openedRight, linesAfter}
+use Rattle.walsh.specs.Steps.{keptOf}
 use Rattle.walsh.proofs.Sticking.{Rises, Values}
 use Rattle.walsh.proofs.Opening.{Bits}
 use Rattle.walsh.proofs.Screens.{inputs-most, inputs-power}

@@ -77,10 +77,6 @@ openedRight inputs values = cond (fewOf (length values)) (cond (ltb (length valu
 abbrev pub keptInputs : List ℤ → List ℕ → ℕ
 keptInputs coefficients values = inputsOf (length coefficients) - length values
 
--- the same from the number of inputs, and 0 where the arguments are not right
-unfoldable pub keptOf : ℕ → List ℕ → ℕ
-keptOf inputs values = cond (openedRight inputs values) (inputs - length values) 0
-
 -- the lines behind line n, with their values
 unfoldable pub linesAfter : ℕ → List ℕ → List Stuck
 linesAfter n [] = []

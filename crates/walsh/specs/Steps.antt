@@ -8,7 +8,7 @@ use lib.ListN.{length}
 use Rattle.integer.specs.Sum.{signed}
 use Rattle.integer.specs.Tab.{tab, nth}
 use Rattle.walsh.specs.Answers.{outsideAt}
-use Rattle.walsh.specs.Faults.{bitOf}
+use Rattle.walsh.specs.Faults.{bitOf, openedRight}
 
 -- whether some x below n passes the test p
 unfoldable pub anyWhere : (ℕ → Bool) → ℕ → Bool
@@ -36,3 +36,7 @@ stuckOnceAt input value a label =
 
 unfoldable pub stuckOnce : ℕ → ℕ → List ℤ → List ℤ
 stuckOnce input value a = tab (length a) (stuckOnceAt input value a)
+
+-- the n of n + k inputs, k of them opened, and 0 where the arguments are not right
+unfoldable pub keptOf : ℕ → List ℕ → ℕ
+keptOf inputs values = cond (openedRight inputs values) (inputs - length values) 0

@@ -10,8 +10,8 @@ ghost use lib.ListN.{length};
 ghost use Rattle.integer.specs.Sum.{signed};
 ghost use Rattle.integer.specs.Tab.{Within};
 ghost use Rattle.walsh.specs.Answers.{leaves, written, inputsOf};
-ghost use Rattle.walsh.specs.Faults.{stuckOf, stuckSpectrumOf, rising, binary, stuckRight, stuckAnswer, keptOf, openedAnswer, openedSpectrumOf, undividedAnswer};
-ghost use Rattle.walsh.specs.Steps.{stuckOnce};
+ghost use Rattle.walsh.specs.Faults.{stuckOf, stuckSpectrumOf, rising, binary, stuckRight, stuckAnswer, openedAnswer, openedSpectrumOf, undividedAnswer};
+ghost use Rattle.walsh.specs.Steps.{keptOf, stuckOnce};
 
 // x + y, or x - y where the value is not 0.
 fn joined(x: i64, y: i64, value: u32) -> i64

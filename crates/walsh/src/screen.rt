@@ -40,7 +40,7 @@ fn any_outside(list: &[i32], low: i32, high: i32) -> bool
 }
 
 // The index of the first number that is not from low to high, or the length where there is none.
-pub fn first_outside(list: &[i32], low: i32, high: i32) -> usize
+fn first_outside(list: &[i32], low: i32, high: i32) -> usize
     ensures { λ r. ⌜ r ≡ firstOutside low high (now (list .entry)) ⌝ }
 {
     if !any_outside(list, low, high) {
@@ -61,7 +61,14 @@ pub fn first_outside(list: &[i32], low: i32, high: i32) -> usize
 }
 
 // Refusals 9, 12 (unless `right`), 10 and 8 (where `room` is below `due`), in this order.
-pub fn screen(list: &[i32], low: i32, high: i32, right: bool, room: usize, due: usize) -> Answer
+pub(crate) fn screen(
+    list: &[i32],
+    low: i32,
+    high: i32,
+    right: bool,
+    room: usize,
+    due: usize,
+) -> Answer
     ensures { λ r. ⌜ r ≡ screenOf low high right (now (list .entry)) room due ⌝ }
 {
     let n = list.len();

@@ -11,7 +11,8 @@ use lib.ListN.{length}
 use lib.Seq.{length-take-le}
 use borrow.Author.Tests.{ltb-true}
 use Rattle.walsh.specs.Answers.{andThen, minus, inputsOf, screenOf}
-use Rattle.walsh.specs.Faults.{keptInputs, keptOf, openedRight, openedAnswer, undividedAnswer}
+use Rattle.walsh.specs.Faults.{keptInputs, openedRight, openedAnswer, undividedAnswer}
+use Rattle.walsh.specs.Steps.{keptOf}
 use Rattle.walsh.specs.declared.Answer.{Answer}
 use Rattle.walsh.specs.declared.Answer.the-variants.{Done}
 use Rattle.walsh.proofs.Arguments.{kept-is, kept-right, kept-most}
