@@ -46,7 +46,7 @@ module _ (rows : List ℤ) (k : ℕ) (size : length rows ≡ 2 ^ k) where
       ∙ tab-ext (length rows) _ _ (λ x h. ap (quotientOf (2 ^ k)) (sums-back x (omega arith)) ∙ quot-multiple (2 ^ k) (nth rows x) (pow-pos k))
       ∙ tab-nth rows
 
-  -- every sum of the spectrum of rows in range does
+  -- every sum of the spectrum of rows in range fits
   sums-fit : Within 1000 rows → (x : ℕ) → x < 2 ^ k → unfitAt (2 ^ k) (minus 1000) (pos 1000) (spectrumOf (spectrumOf rows)) x ≡ false
   unfolding unfitAt
   sums-fit w x h =
@@ -55,7 +55,7 @@ module _ (rows : List ℤ) (k : ℕ) (size : length rows ≡ 2 ^ k) where
       ∙ ap (outside (minus 1000) (pos 1000)) (quot-multiple (2 ^ k) (nth rows x) (pow-pos k))
       ∙ small-outside 1000 (nth rows x) (w x (omega arith))
 
--- Where every sum does, the rows have the spectrum.
+-- Where every sum fits, the rows have the spectrum.
 
 above : (n : ℕ) → 0 < n → (m : ℕ) × (n ≡ suc m)
 above zero h = absurd (omega arith)
@@ -126,7 +126,7 @@ module _ (c : List ℤ) (room : ℕ) (passed : screened c room ≡ Done) where
       subst (λ (d : ℕ). (x : ℕ) → x < d → unfitAt d (minus 1000) (pos 1000) (spectrumOf c) x ≡ false) size
       (λ x h. divided-done (length c) (minus 1000) (pos 1000) (spectrumOf c) e x (omega (arith, length-spectrum c)))
 
-  -- some rows in range have the spectrum: then every sum does
+  -- some rows in range have the spectrum: then every sum fits
   rows-done : (rows : List ℤ) → Within 1000 rows → spectrumOf rows ≡ c → divided ≡ Done
   rows-done rows w e =
       let n : length rows ≡ 2 ^ inputs = sym (length-spectrum rows) ∙ ap length e ∙ size in

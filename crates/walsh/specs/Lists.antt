@@ -32,7 +32,7 @@ unfitAt d low high sums x = unfit d low high (nth sums x)
 unfoldable pub firstUnfit : ℕ → ℤ → ℤ → List ℤ → ℕ
 firstUnfit d low high sums = firstWhere (unfitAt d low high sums) (length sums)
 
--- 11 at the first sum that does not do
+-- 11 at the first unfit sum
 unfoldable pub dividedAnswer : ℕ → ℤ → ℤ → List ℤ → Answer
 dividedAnswer d low high sums = choose (ltb (firstUnfit d low high sums) (length sums)) (Refused 11 (firstUnfit d low high sums)) Done
 
