@@ -1,0 +1,335 @@
+-- What acceptance means:
+--   well-formed      an accepted circuit is within the ranges, its gates read lower lines, its outputs and faults name lines that exist
+--   lines-said       lines that are read are each accepted by their own tests
+--   head-fits, gate-right, output-right, fault-right     what the tests of each line show
+use mathlib.Core.Path.{_≡_, refl, sym, ap, _∙_, subst, subst⁻¹}
+use mathlib.Core.Bool.{Bool, true, false, cond, _&&_, _||_, true≢false, false≢true}
+use mathlib.Core.List.{List, [], _∷_, _++_}
+use mathlib.Core.Logic.{inl, inr}
+use Prim.Native.Nat.{ℕ, zero, suc, _+_, _-_, _<_, _≤_, zero-le}
+use native.Mathlib.Nat.{add-zero, zero-add, lt-of-not-le, le-antisymm}
+use native.Mathlib.Decide.{decLe}
+use native.Mathlib.Omega.{arith}
+use lib.Dec.{eqb, leb, ltb}
+use lib.IntN.{pos, natAbs}
+use lib.ListN.{length, getD, length-append, List·getD-append}
+use lib.Seq.{getD-append-seam}
+use borrow.Author.Tests.{ltb-true, ltb-false, leb-true, eqb-true, eqb-false, lt-leb}
+use Rattle.text.specs.Text.{before, after, lineEnd, indexOf, fieldOf, fieldCount, sameBytes, numberOf, wellFormed, digits, decimalFrom}
+use Rattle.text.proofs.Decimals.{both}
+use Rattle.text.proofs.Parts.{no-field}
+use Rattle.text.proofs.Words.{same-equal}
+use Rattle.netlist.specs.Circuits.{Netlist, sound}
+use Rattle.netlist.specs.Lines.{unless, valueOf, valueAt, isLine, fits, faultWord, isHead, headFits, headRefusal, headOf, isKind, kindOf, notWord, andWord, orWord, nandWord, norWord, xorWord, xnorWord, isGate, gateFits, readsBelow, gateRefusal, gateOf, isOutput, outputFits, outputRefusal, outputOf, isFault, pairFits, faultFits, linesExist, risesAt, linesRise, faultRefusal, stuckAt, faultOf}
+use Rattle.netlist.specs.Parsing.{Read, items, refused, lineRefusal, linesOf, nthGateRefusal, nthOutputRefusal, nthFaultRefusal, gatesIn, outputsIn, faultsIn, Parse, accepted, rejected, onRead, endOf, bodyOf, parseOf}
+use Rattle.netlist.specs.Rows.{noOutput}
+use Rattle.netlist.specs.WellFormed.{SecondRight, GateRight, OutputRight, Above, FaultRight, noGate, WellFormed}
+use Rattle.netlist.specs.declared.Fault.{Fault}
+use Rattle.netlist.specs.declared.Gate.{Gate}
+use Rattle.netlist.specs.declared.Head.{Head}
+use Rattle.netlist.specs.declared.Kind.{Kind}
+use Rattle.netlist.specs.declared.Kind.the-variants.{And, Or, Nand, Nor, Xor, Xnor, Not}
+use Rattle.netlist.specs.declared.Output.{Output}
+
+-- tests joined
+
+-- the first test and those behind it pass, where none refuses
+pub passed : (t : Bool) (k next : ℕ) → unless t (suc k) next ≡ 0 → (t ≡ true) × (next ≡ 0)
+passed true k next e = (refl, e)
+passed false k next e = absurd (omega arith)
+
+second-holds : (a b : Bool) → a ≡ false → (a || b) ≡ true → b ≡ true
+second-holds true b f e = absurd (true≢false f)
+second-holds false b f e = e
+
+pub fits-range : (l : List ℕ) (k low high : ℕ) → fits l k low high ≡ true → (low ≤ valueAt l k) × (valueAt l k ≤ high)
+unfolding fits
+fits-range l k low high e = let b = both (leb low (valueAt l k)) (leb (valueAt l k) high) e in (leb-true low (valueAt l k) (b .0), leb-true (valueAt l k) high (b .1))
+
+pub absent : (l : List ℕ) (k : ℕ) → fieldCount l ≤ k → valueAt l k ≡ 0
+unfolding valueAt numberOf wellFormed
+absent l k h = rw (no-field l k h .0)
+
+-- one line
+
+pub head-right : (l : List ℕ) → headRefusal l ≡ 0 → headFits l ≡ true
+unfolding headRefusal
+head-right l e = passed (headFits l) 2 0 (passed (isHead l) 1 (unless (headFits l) 3 0) e .1) .0
+
+pub record HeadRight (h : Head) : Type 0 where
+  pub inputs-low : 1 ≤ h .inputs
+  pub inputs-high : h .inputs ≤ 8
+  pub gates-high : h .gates ≤ 48
+  pub outputs-low : 1 ≤ h .outputs
+  pub outputs-high : h .outputs ≤ 4
+  pub faults-low : 1 ≤ h .faults
+  pub faults-high : h .faults ≤ 32
+  pub cap-low : 1 ≤ h .cap
+  pub cap-high : h .cap ≤ 4
+
+pub head-fits : (l : List ℕ) → headRefusal l ≡ 0 → HeadRight (headOf l)
+unfolding headFits headOf
+head-fits l e =
+    let a = both (((fits l 1 1 8 && fits l 2 0 48) && fits l 3 1 4) && fits l 4 1 32) (fits l 5 1 4) (head-right l e) in
+    let b = both ((fits l 1 1 8 && fits l 2 0 48) && fits l 3 1 4) (fits l 4 1 32) (a .0) in
+    let c = both (fits l 1 1 8 && fits l 2 0 48) (fits l 3 1 4) (b .0) in
+    let d = both (fits l 1 1 8) (fits l 2 0 48) (c .0) in
+    let n = fits-range l 1 1 8 (d .0) in
+    let m = fits-range l 3 1 4 (c .1) in
+    let q = fits-range l 4 1 32 (b .1) in
+    let k = fits-range l 5 1 4 (a .1) in
+    record { inputs-low = n .0; inputs-high = n .1; gates-high = fits-range l 2 0 48 (d .1) .1; outputs-low = m .0; outputs-high = m .1; faults-low = q .0; faults-high = q .1; cap-low = k .0; cap-high = k .1 }
+
+-- a kind that is not `not`
+other-kind : (b : ℕ) (t1 t2 t3 t4 t5 t6 t7 : Bool) → (t1 || t2 || t3 || t4 || t5 || t6 || t7) ≡ true → t7 ≡ false → 1 ≤ b
+    → SecondRight (cond t1 And (cond t2 Or (cond t3 Nand (cond t4 Nor (cond t5 Xor (cond t6 Xnor Not)))))) b
+other-kind b true t2 t3 t4 t5 t6 t7 k n h = h
+other-kind b false true t3 t4 t5 t6 t7 k n h = h
+other-kind b false false true t4 t5 t6 t7 k n h = h
+other-kind b false false false true t5 t6 t7 k n h = h
+other-kind b false false false false true t6 t7 k n h = h
+other-kind b false false false false false true t7 k n h = h
+other-kind b false false false false false false t7 k n h = absurd (true≢false (sym k ∙ n))
+
+second-right : (l : List ℕ) → isKind (fieldOf l 1) ≡ true → cond (sameBytes (fieldOf l 1) notWord) (fits l 3 0 0) (fits l 3 1 56) ≡ true → SecondRight (kindOf (fieldOf l 1)) (valueAt l 3)
+unfolding isKind kindOf sameBytes
+second-right l k e = go (sameBytes w notWord) refl e
+  where
+    w : List ℕ
+    w = fieldOf l 1
+
+    go : (t : Bool) → sameBytes w notWord ≡ t → cond t (fits l 3 0 0) (fits l 3 1 56) ≡ true → SecondRight (kindOf w) (valueAt l 3)
+    go true s f = subst⁻¹ (λ v. SecondRight (kindOf v) (valueAt l 3)) (same-equal w notWord s) (le-antisymm (fits-range l 3 0 0 f .1) zero-le)
+    go false s f = other-kind (valueAt l 3) (sameBytes w andWord) (sameBytes w orWord) (sameBytes w nandWord) (sameBytes w norWord) (sameBytes w xorWord) (sameBytes w xnorWord) (sameBytes w notWord) k s (fits-range l 3 1 56 f .0)
+
+pub gate-right : (own : ℕ) (l : List ℕ) → gateRefusal own l ≡ 0 → GateRight own (gateOf l)
+unfolding gateRefusal isGate gateFits readsBelow gateOf
+gate-right own l e =
+    let a = passed (isGate l) 1 (unless (gateFits l) 3 (unless (readsBelow own l) 4 0)) e in
+    let b = passed (gateFits l) 2 (unless (readsBelow own l) 4 0) (a .1) in
+    let c = passed (readsBelow own l) 3 0 (b .1) in
+    let f = both (fits l 2 1 56) (cond (sameBytes (fieldOf l 1) notWord) (fits l 3 0 0) (fits l 3 1 56)) (b .0) in
+    let r = both (ltb (valueAt l 2) own) (ltb (valueAt l 3) own) (c .0) in
+    record {
+      first = fits-range l 2 1 56 (f .0) .0;
+      second = second-right l (both (isLine l _ 2 4) (isKind (fieldOf l 1)) (a .0) .1) (f .1);
+      first-below = ltb-true (valueAt l 2) own (r .0);
+      second-below = ltb-true (valueAt l 3) own (r .1);
+    }
+
+pub output-right : (top : ℕ) (l : List ℕ) → outputRefusal top l ≡ 0 → OutputRight top (outputOf l)
+unfolding outputRefusal outputFits outputOf
+output-right top l e =
+    let a = passed (isOutput l) 1 (unless (outputFits l) 3 (unless (leb (valueAt l 1) top) 5 0)) e in
+    let b = passed (outputFits l) 2 (unless (leb (valueAt l 1) top) 5 0) (a .1) in
+    let c = passed (leb (valueAt l 1) top) 4 0 (b .1) in
+    let f = both (fits l 1 1 56) (fits l 2 1 15) (b .0) in
+    let w = fits-range l 2 1 15 (f .1) in
+    record { line-low = fits-range l 1 1 56 (f .0) .0; line-high = leb-true (valueAt l 1) top (c .0); weight-low = w .0; weight-high = w .1; weight-whole = refl }
+
+-- a line of faults has at least two fields
+counted : (l word : List ℕ) (fields : ℕ) → isLine l word 1 fields ≡ true → fieldCount l ≡ fields
+unfolding isLine
+counted l word fields e = eqb-true (fieldCount l) fields (both (eqb (fieldCount l) fields) (sameBytes (fieldOf l 0) word) (both (eqb (fieldCount l) fields && sameBytes (fieldOf l 0) word) _ e .0) .0)
+
+some-pair : (l : List ℕ) → isFault l ≡ true → 1 < fieldCount l
+unfolding isFault
+some-pair l e = go (isLine l faultWord 1 3) refl (isLine l faultWord 1 5) refl (isLine l faultWord 1 7) refl e
+  where
+    go : (s : Bool) → isLine l faultWord 1 3 ≡ s → (t : Bool) → isLine l faultWord 1 5 ≡ t → (u : Bool) → isLine l faultWord 1 7 ≡ u → (s || t || u) ≡ true → 1 < fieldCount l
+    go true a t b u c h = omega (arith, counted l faultWord 3 a)
+    go false a true b u c h = omega (arith, counted l faultWord 5 b)
+    go false a false b true c h = omega (arith, counted l faultWord 7 c)
+    go false a false b false c h = absurd (false≢true h)
+
+-- the pair at field k, which is there
+module _ (l : List ℕ) (k : ℕ) (there : k < fieldCount l) where
+  there-fits : pairFits l k ≡ true → 1 ≤ valueAt l k
+  unfolding pairFits
+  there-fits e = fits-range l k 1 56 (both (fits l k 1 56) (fits l (suc k) 0 1) (second-holds (leb (fieldCount l) k) _ (lt-leb (fieldCount l) k there) e) .0) .0
+
+  there-rises : risesAt l k ≡ true → valueAt l (k - 2) < valueAt l k
+  unfolding risesAt
+  there-rises e = ltb-true (valueAt l (k - 2)) (valueAt l k) (second-holds (leb (fieldCount l) k) _ (lt-leb (fieldCount l) k there) e)
+
+above : (l : List ℕ) (k top : ℕ) → risesAt l k ≡ true → valueAt l k ≤ top → Above (valueAt l (k - 2)) top (stuckAt l k)
+unfolding stuckAt
+above l k top e h = go (decLe (fieldCount l) k)
+  where
+    go : Dec (fieldCount l ≤ k) → Above (valueAt l (k - 2)) top (stuckAt l k)
+    go (yes none) = inl (absent l k none)
+    go (no some) = inr (there-rises l k (lt-of-not-le some) e, h)
+
+pub fault-right : (top : ℕ) (l : List ℕ) → faultRefusal top l ≡ 0 → FaultRight top (faultOf l)
+unfolding faultRefusal faultFits linesExist linesRise faultOf stuckAt
+fault-right top l e =
+    let a = passed (isFault l) 1 (unless (faultFits l) 3 (unless (linesExist top l) 5 (unless (linesRise l) 6 0))) e in
+    let b = passed (faultFits l) 2 (unless (linesExist top l) 5 (unless (linesRise l) 6 0)) (a .1) in
+    let c = passed (linesExist top l) 4 (unless (linesRise l) 6 0) (b .1) in
+    let d = passed (linesRise l) 5 0 (c .1) in
+    let f = both (pairFits l 1 && pairFits l 3) (pairFits l 5) (b .0) in
+    let x = both (leb (valueAt l 1) top && leb (valueAt l 3) top) (leb (valueAt l 5) top) (c .0) in
+    let y = both (leb (valueAt l 1) top) (leb (valueAt l 3) top) (x .0) in
+    let r = both (risesAt l 3) (risesAt l 5) (d .0) in
+    record {
+      first-low = there-fits l 1 (some-pair l (a .0)) (both (pairFits l 1) (pairFits l 3) (f .0) .0);
+      first-high = leb-true (valueAt l 1) top (y .0);
+      second = above l 3 top (r .0) (leb-true (valueAt l 3) top (y .1));
+      third = above l 5 top (r .1) (leb-true (valueAt l 5) top (x .1));
+      no-gap = gap l (r .0);
+    }
+  where
+    gap : (l : List ℕ) → risesAt l 3 ≡ true → valueAt l 3 ≡ 0 → valueAt l 5 ≡ 0
+    gap l r z = go (decLe (fieldCount l) 5)
+      where
+        go : Dec (fieldCount l ≤ 5) → valueAt l 5 ≡ 0
+        go (yes none) = absent l 5 none
+        go (no some) = let h : 3 < fieldCount l = omega (arith, lt-of-not-le some) in absurd (omega (arith, there-rises l 3 h r))
+
+-- lines one after the other
+
+abbrev itemsOf : {A : Type 0} → Read A → List A
+itemsOf (items l rest) = l
+itemsOf (refused number place) = []
+
+abbrev isRead : {A : Type 0} → Read A → Bool
+isRead (items l rest) = true
+isRead (refused number place) = false
+
+module _ {A : Type 0} (refusal : ℕ → List ℕ → ℕ) (item : List ℕ → A) (d : A) where
+  -- what some line said that was accepted as the j-th, from 0
+  pub record Says (j : ℕ) (x : A) : Type 0 where
+    pub line : List ℕ
+    pub passes : refusal j line ≡ 0
+    pub is : x ≡ item line
+
+  abbrev pub Said : List A → Type 0
+  Said l = (j : ℕ) → j < length l → Says j (getD l j d)
+
+  none-said : Said []
+  none-said j h = absurd (omega arith)
+
+  more-said : (read : List A) (line : List ℕ) → refusal (length read) line ≡ 0 → Said read → Said (read ++ (item line ∷ []))
+  more-said read line e s j h = go (decLe (length read) j)
+    where
+      go : Dec (length read ≤ j) → Says j (getD (read ++ (item line ∷ [])) j d)
+      go (yes last) =
+          let k : j ≡ length read = omega (arith, length-append read (item line ∷ [])) in
+          record { line = line; passes = ap (λ (i : ℕ). refusal i line) k ∙ e; is = ap (λ (i : ℕ). getD (read ++ (item line ∷ [])) i d) k ∙ getD-append-seam read (item line) [] d }
+      go (no early) = subst⁻¹ (Says j) (List·getD-append read (item line ∷ []) d j (lt-of-not-le early)) (s j (lt-of-not-le early))
+
+  pub lines-said : (left place : ℕ) (rest : List ℕ) (read l : List A) (end : List ℕ) → Said read → linesOf refusal item left place rest read ≡ items l end
+      → Said l × (length l ≡ length read + left)
+  unfolding linesOf
+  lines-said zero place rest read l end s e = let k : read ≡ l = ap itemsOf e in (subst Said k s, ap length (sym k) ∙ sym (add-zero (length read)))
+  lines-said (suc left) place rest read l end s e = go (has-line) refl (eqb (lineRefusal (refusal (length read)) rest) 0) refl (lines-said left (suc place) (after lineEnd rest) (read ++ (item (before lineEnd rest) ∷ [])) l end) e
+    where
+      has-line : Bool
+      has-line = ltb (indexOf lineEnd rest) (length rest)
+
+      own : ℕ
+      own = refusal (length read) (before lineEnd rest)
+
+      more : List A
+      more = read ++ (item (before lineEnd rest) ∷ [])
+
+      go : (b : Bool) → has-line ≡ b → (t : Bool) → eqb (unless b 2 own) 0 ≡ t
+          → (Said more → linesOf refusal item left (suc place) (after lineEnd rest) more ≡ items l end → Said l × (length l ≡ length more + left))
+          → cond t (linesOf refusal item left (suc place) (after lineEnd rest) more) (refused (unless b 2 own) place) ≡ items l end
+          → Said l × (length l ≡ length read + suc left)
+      go true h true z ih q =
+          let r = ih (more-said read (before lineEnd rest) (eqb-true own 0 z) s) q in
+          (r .0, omega (arith, r .1, length-append read (item (before lineEnd rest) ∷ [])))
+      go b h false z ih q = absurd (false≢true (ap isRead q))
+      go false h true z ih q = absurd (omega (arith, eqb-true 2 0 z))
+
+-- the whole text
+
+abbrev isAccepted : Parse → Bool
+isAccepted (accepted n) = true
+isAccepted (rejected number place) = false
+
+abbrev netlistIn : Netlist → Parse → Netlist
+netlistIn d (accepted n) = n
+netlistIn d (rejected number place) = d
+
+never : {X : Type 0} (number place : ℕ) (n : Netlist) → rejected number place ≡ accepted n → X
+never number place n e = absurd (false≢true (ap isAccepted e))
+
+module _ (h : Head) (right : HeadRight h) (n : Netlist) where
+  ended : (gates : List Gate) (outputs : List Output) (faults : List Fault) (rest : List ℕ)
+      → Said (nthGateRefusal (h .inputs)) gateOf noGate gates → length gates ≡ h .gates
+      → Said (nthOutputRefusal (h .inputs + h .gates)) outputOf noOutput outputs → length outputs ≡ h .outputs
+      → Said (nthFaultRefusal (h .inputs + h .gates)) faultOf sound faults → length faults ≡ h .faults
+      → endOf h gates outputs faults rest ≡ accepted n → WellFormed n
+  unfolding endOf
+  ended gates outputs faults rest gs g os o fs f e = go (ltb 0 (length rest)) e
+    where
+      m : Netlist
+      m = record { inputs = h .inputs; gates = gates; outputs = outputs; faults = faults; cap = h .cap }
+
+      top : h .inputs + h .gates ≡ h .inputs + length gates
+      top = ap (λ (k : ℕ). h .inputs + k) (sym g)
+
+      go : (t : Bool) → cond t (rejected 7 (h .gates + h .outputs + h .faults + 2)) (accepted m) ≡ accepted n → WellFormed n
+      go true q = never 7 (h .gates + h .outputs + h .faults + 2) n q
+      go false q =
+          subst WellFormed (ap (netlistIn m) q)
+          record {
+            inputs-low = right .inputs-low;
+            inputs-high = right .inputs-high;
+            gates-high = subst⁻¹ (λ k. k ≤ 48) g (right .gates-high);
+            outputs-low = subst⁻¹ (λ k. 1 ≤ k) o (right .outputs-low);
+            outputs-high = subst⁻¹ (λ k. k ≤ 4) o (right .outputs-high);
+            faults-low = subst⁻¹ (λ k. 1 ≤ k) f (right .faults-low);
+            faults-high = subst⁻¹ (λ k. k ≤ 32) f (right .faults-high);
+            cap-low = right .cap-low;
+            cap-high = right .cap-high;
+            gates-right = λ j k. let s = gs j k in subst⁻¹ (GateRight (h .inputs + j + 1)) (s .is) (gate-right (h .inputs + j + 1) (s .line) (s .passes));
+            outputs-right = λ j k. let s = os j k in subst (λ t. OutputRight t (getD outputs j noOutput)) top (subst⁻¹ (OutputRight (h .inputs + h .gates)) (s .is) (output-right (h .inputs + h .gates) (s .line) (s .passes)));
+            faults-right = λ j k. let s = fs j k in subst (λ t. FaultRight t (getD faults j sound)) top (subst⁻¹ (FaultRight (h .inputs + h .gates)) (s .is) (fault-right (h .inputs + h .gates) (s .line) (s .passes)));
+          }
+
+  behind-outputs : (gates : List Gate) (outputs : List Output) (rest : List ℕ) (r : Read Fault) → faultsIn h rest ≡ r
+      → Said (nthGateRefusal (h .inputs)) gateOf noGate gates → length gates ≡ h .gates
+      → Said (nthOutputRefusal (h .inputs + h .gates)) outputOf noOutput outputs → length outputs ≡ h .outputs
+      → onRead r (endOf h gates outputs) ≡ accepted n → WellFormed n
+  unfolding faultsIn
+  behind-outputs gates outputs rest (items faults end) x gs g os o e =
+      let s = lines-said (nthFaultRefusal (h .inputs + h .gates)) faultOf sound (h .faults) (h .gates + h .outputs + 2) rest [] faults end (λ j k. absurd (omega arith)) x in
+      ended gates outputs faults end gs g os o (s .0) (s .1 ∙ zero-add (h .faults)) e
+  behind-outputs gates outputs rest (refused number place) x gs g os o e = never number place n e
+
+  behind-gates : (gates : List Gate) (rest : List ℕ) (r : Read Output) → outputsIn h rest ≡ r
+      → Said (nthGateRefusal (h .inputs)) gateOf noGate gates → length gates ≡ h .gates
+      → onRead r (λ outputs rest. onRead (faultsIn h rest) (endOf h gates outputs)) ≡ accepted n → WellFormed n
+  unfolding outputsIn
+  behind-gates gates rest (items outputs end) x gs g e =
+      let s = lines-said (nthOutputRefusal (h .inputs + h .gates)) outputOf noOutput (h .outputs) (h .gates + 2) rest [] outputs end (λ j k. absurd (omega arith)) x in
+      behind-outputs gates outputs end (faultsIn h end) refl gs g (s .0) (s .1 ∙ zero-add (h .outputs)) e
+  behind-gates gates rest (refused number place) x gs g e = never number place n e
+
+  behind-head : (rest : List ℕ) (r : Read Gate) → gatesIn h rest ≡ r
+      → onRead r (λ gates rest. onRead (outputsIn h rest) (λ outputs rest. onRead (faultsIn h rest) (endOf h gates outputs))) ≡ accepted n → WellFormed n
+  unfolding gatesIn
+  behind-head rest (items gates end) x e =
+      let s = lines-said (nthGateRefusal (h .inputs)) gateOf noGate (h .gates) 2 rest [] gates end (λ j k. absurd (omega arith)) x in
+      behind-gates gates end (outputsIn h end) refl (s .0) (s .1 ∙ zero-add (h .gates)) e
+  behind-head rest (refused number place) x e = never number place n e
+
+pub well-formed : (text : List ℕ) (n : Netlist) → parseOf text ≡ accepted n → WellFormed n
+unfolding parseOf bodyOf
+well-formed text n e = size (ltb 16384 (length text)) e
+  where
+    head : Head
+    head = headOf (before lineEnd text)
+
+    first : (b : Bool) (t : Bool) → eqb (unless b 2 (headRefusal (before lineEnd text))) 0 ≡ t
+        → cond t (bodyOf head (after lineEnd text)) (rejected (unless b 2 (headRefusal (before lineEnd text))) 1) ≡ accepted n → WellFormed n
+    first true true z q = behind-head head (head-fits (before lineEnd text) (eqb-true (headRefusal (before lineEnd text)) 0 z)) n (after lineEnd text) (gatesIn head (after lineEnd text)) refl q
+    first b false z q = never (unless b 2 (headRefusal (before lineEnd text))) 1 n q
+    first false true z q = absurd (omega (arith, eqb-true 2 0 z))
+
+    size : (t : Bool) → cond t (rejected 1 0) (cond (eqb (lineRefusal headRefusal text) 0) (bodyOf head (after lineEnd text)) (rejected (lineRefusal headRefusal text) 1)) ≡ accepted n → WellFormed n
+    size true q = never 1 0 n q
+    size false q = first (ltb (indexOf lineEnd text) (length text)) (eqb (lineRefusal headRefusal text) 0) refl q

@@ -1,0 +1,30 @@
+use mathlib.Core.Path.{sym}
+use borrow.Author.Needs.{needs}
+use Rattle.netlist.specs.Lines.{isLine}
+use Rattle.netlist.proofs.lines.is_line.Statement.{statement}
+use Rattle.netlist.proofs.lines.is_line.Tie as tie
+
+fields-requires : tie.Need-fields-requires
+fields-requires c κs = search needs
+
+field-requires : tie.Need-field-requires
+field-requires c κs = search needs
+
+same-requires : tie.Need-same-requires
+same-requires c κs = search needs
+
+numbers-requires : tie.Need-numbers-requires
+numbers-requires c κs = search needs
+
+returns : tie.Need-returns
+unfolding isLine
+returns c = simp (
+  sym (c .before .before .before .fields .ensures),
+  sym (c .before .before .field .ensures),
+  sym (c .before .same .ensures),
+  sym (c .numbers .ensures),
+)
+
+pub is-line-spec : {M : Type 1} → statement M
+is-line-spec =
+    tie.close (tie.spec fields-requires field-requires same-requires numbers-requires returns)

@@ -1,0 +1,124 @@
+-- The invariant is `Reading`: what all the lines say is what the lines from `at` on say, after the j read so far.
+use borrow.Author.Needs.{needs}
+use denote.Ref.{now}
+use native.Mathlib.Omega.{arith}
+use Prim.Native.Nat.{_-_}
+use Rattle.netlist.specs.Lines.{faultOf}
+use Rattle.netlist.specs.Parsing.{nthFaultRefusal}
+use Rattle.netlist.proofs.LineLoops.{Reading, begun, turned, missing, declined, finished}
+use Rattle.netlist.proofs.parsing.faults.Statement.{statement}
+use Rattle.netlist.proofs.parsing.faults.Tie as tie
+
+abbrev Inv-loop : tie.InvT-loop
+Inv-loop text from top count place faults₀ at₀ j₀ faults at j = Reading (nthFaultRefusal top) faultOf text from place count 32 faults j at
+
+abbrev μ-loop : tie.MeasureT-loop
+μ-loop text from top count place faults₀ at₀ j₀ faults at j = count - j
+
+loop-holds : tie.Need-loop-holds Inv-loop μ-loop
+loop-holds c = let a = c .before .args in begun (nthFaultRefusal (a .top)) faultOf (now (a .text)) (a .from) (a .place) (a .count) 32 _ (search needs)
+
+find-requires : tie.Need-find-requires Inv-loop μ-loop
+find-requires c κs = search needs
+
+add-t15 : tie.Need-add-t15 Inv-loop μ-loop
+add-t15 c = search needs
+
+returns : tie.Need-returns Inv-loop μ-loop
+returns c =
+    let a = c .before .before .before .before .before .args in
+    let l = c .before .before .before .loop in
+    let f = c .before .find in
+    missing (nthFaultRefusal (a .top)) faultOf (now (a .text)) (a .from) (a .place) (a .count) 32 (l .faults) (l .j) (l .at) (omega arith) (l .inv) (omega arith) (f .result) (f .ensures) (omega arith)
+
+sub-fault-refusal : tie.Need-sub-fault-refusal Inv-loop μ-loop
+sub-fault-refusal c = search needs
+
+part-fault-refusal-start : tie.Need-part-fault-refusal-start Inv-loop μ-loop
+part-fault-refusal-start c = search needs
+
+part-fault-refusal-end : tie.Need-part-fault-refusal-end Inv-loop μ-loop
+part-fault-refusal-end c = search needs
+
+fault-refusal-requires : tie.Need-fault-refusal-requires Inv-loop μ-loop
+fault-refusal-requires c κs = search needs
+
+add-t20 : tie.Need-add-t20 Inv-loop μ-loop
+add-t20 c = search needs
+
+returns-2 : tie.Need-returns-2 Inv-loop μ-loop
+returns-2 c =
+    let a = c .before .before .before .before .before .before .before .before .args in
+    let l = c .before .before .before .before .before .before .loop in
+    let f = c .before .before .before .before .find in
+    let r = c .before .fault-refusal in
+    declined (nthFaultRefusal (a .top)) faultOf (now (a .text)) (a .from) (a .place) (a .count) 32 (l .faults) (l .j) (l .at) (omega arith) (l .inv) (omega arith) (f .result) (f .ensures) (omega arith) (r .result) (r .ensures) (c .if2 .taken)
+
+sub-fault-of : tie.Need-sub-fault-of Inv-loop μ-loop
+sub-fault-of c = search needs
+
+part-fault-of-start : tie.Need-part-fault-of-start Inv-loop μ-loop
+part-fault-of-start c = search needs
+
+part-fault-of-end : tie.Need-part-fault-of-end Inv-loop μ-loop
+part-fault-of-end c = search needs
+
+fault-of-requires : tie.Need-fault-of-requires Inv-loop μ-loop
+fault-of-requires c κs = search needs
+
+mul-faults : tie.Need-mul-faults Inv-loop μ-loop
+mul-faults c = search needs
+
+array-set-from-faults : tie.Need-array-set-from-faults Inv-loop μ-loop
+array-set-from-faults c = search needs
+
+add-at : tie.Need-add-at Inv-loop μ-loop
+add-at c = search needs
+
+add-j : tie.Need-add-j Inv-loop μ-loop
+add-j c = search needs
+
+loop-less : tie.Need-loop-less Inv-loop μ-loop
+loop-less c = search needs
+
+loop-again : tie.Need-loop-again Inv-loop μ-loop
+loop-again c =
+    let a = c .before .before .before .before .before .before .before .before .before .before .args in
+    let l = c .before .before .before .before .before .before .before .before .loop in
+    let f = c .before .before .before .before .before .before .find in
+    let r = c .before .before .before .fault-refusal in
+    turned (nthFaultRefusal (a .top)) faultOf (now (a .text)) (a .from) (a .place) (a .count) 32 (l .faults) (l .j) (l .at) (omega arith) (l .inv) (omega arith) (f .result) (f .ensures) (omega arith) (r .result) (r .ensures) (c .fault-of .result) (c .before .before .if2 .left) (c .fault-of .ensures)
+
+returns-3 : tie.Need-returns-3 Inv-loop μ-loop
+returns-3 c =
+    let a = c .before .before .before .args in
+    let l = c .before .loop in
+    finished (nthFaultRefusal (a .top)) faultOf (now (a .text)) (a .from) (a .place) (a .count) 32 (l .faults) (l .j) (l .at) (omega arith) (l .inv) (omega arith)
+
+pub faults-spec : {M : Type 1} → statement M
+faults-spec =
+    tie.close
+    (tie.spec
+    Inv-loop
+    μ-loop
+    loop-holds
+    find-requires
+    add-t15
+    returns
+    sub-fault-refusal
+    part-fault-refusal-start
+    part-fault-refusal-end
+    fault-refusal-requires
+    add-t20
+    returns-2
+    sub-fault-of
+    part-fault-of-start
+    part-fault-of-end
+    fault-of-requires
+    mul-faults
+    array-set-from-faults
+    add-at
+    add-j
+    loop-less
+    loop-again
+    returns-3)

@@ -1,0 +1,124 @@
+-- The invariant is `Reading`: what all the lines say is what the lines from `at` on say, after the j read so far.
+use borrow.Author.Needs.{needs}
+use denote.Ref.{now}
+use native.Mathlib.Omega.{arith}
+use Prim.Native.Nat.{_-_}
+use Rattle.netlist.specs.Lines.{outputOf}
+use Rattle.netlist.specs.Parsing.{nthOutputRefusal}
+use Rattle.netlist.proofs.LineLoops.{Reading, begun, turned, missing, declined, finished}
+use Rattle.netlist.proofs.parsing.outputs.Statement.{statement}
+use Rattle.netlist.proofs.parsing.outputs.Tie as tie
+
+abbrev Inv-loop : tie.InvT-loop
+Inv-loop text from top count place outputs₀ at₀ j₀ outputs at j = Reading (nthOutputRefusal top) outputOf text from place count 4 outputs j at
+
+abbrev μ-loop : tie.MeasureT-loop
+μ-loop text from top count place outputs₀ at₀ j₀ outputs at j = count - j
+
+loop-holds : tie.Need-loop-holds Inv-loop μ-loop
+loop-holds c = let a = c .before .args in begun (nthOutputRefusal (a .top)) outputOf (now (a .text)) (a .from) (a .place) (a .count) 4 _ (search needs)
+
+find-requires : tie.Need-find-requires Inv-loop μ-loop
+find-requires c κs = search needs
+
+add-t14 : tie.Need-add-t14 Inv-loop μ-loop
+add-t14 c = search needs
+
+returns : tie.Need-returns Inv-loop μ-loop
+returns c =
+    let a = c .before .before .before .before .before .args in
+    let l = c .before .before .before .loop in
+    let f = c .before .find in
+    missing (nthOutputRefusal (a .top)) outputOf (now (a .text)) (a .from) (a .place) (a .count) 4 (l .outputs) (l .j) (l .at) (omega arith) (l .inv) (omega arith) (f .result) (f .ensures) (omega arith)
+
+sub-output-refusal : tie.Need-sub-output-refusal Inv-loop μ-loop
+sub-output-refusal c = search needs
+
+part-output-refusal-start : tie.Need-part-output-refusal-start Inv-loop μ-loop
+part-output-refusal-start c = search needs
+
+part-output-refusal-end : tie.Need-part-output-refusal-end Inv-loop μ-loop
+part-output-refusal-end c = search needs
+
+output-refusal-requires : tie.Need-output-refusal-requires Inv-loop μ-loop
+output-refusal-requires c κs = search needs
+
+add-t19 : tie.Need-add-t19 Inv-loop μ-loop
+add-t19 c = search needs
+
+returns-2 : tie.Need-returns-2 Inv-loop μ-loop
+returns-2 c =
+    let a = c .before .before .before .before .before .before .before .before .args in
+    let l = c .before .before .before .before .before .before .loop in
+    let f = c .before .before .before .before .find in
+    let r = c .before .output-refusal in
+    declined (nthOutputRefusal (a .top)) outputOf (now (a .text)) (a .from) (a .place) (a .count) 4 (l .outputs) (l .j) (l .at) (omega arith) (l .inv) (omega arith) (f .result) (f .ensures) (omega arith) (r .result) (r .ensures) (c .if2 .taken)
+
+sub-output-of : tie.Need-sub-output-of Inv-loop μ-loop
+sub-output-of c = search needs
+
+part-output-of-start : tie.Need-part-output-of-start Inv-loop μ-loop
+part-output-of-start c = search needs
+
+part-output-of-end : tie.Need-part-output-of-end Inv-loop μ-loop
+part-output-of-end c = search needs
+
+output-of-requires : tie.Need-output-of-requires Inv-loop μ-loop
+output-of-requires c κs = search needs
+
+mul-outputs : tie.Need-mul-outputs Inv-loop μ-loop
+mul-outputs c = search needs
+
+array-set-from-outputs : tie.Need-array-set-from-outputs Inv-loop μ-loop
+array-set-from-outputs c = search needs
+
+add-at : tie.Need-add-at Inv-loop μ-loop
+add-at c = search needs
+
+add-j : tie.Need-add-j Inv-loop μ-loop
+add-j c = search needs
+
+loop-less : tie.Need-loop-less Inv-loop μ-loop
+loop-less c = search needs
+
+loop-again : tie.Need-loop-again Inv-loop μ-loop
+loop-again c =
+    let a = c .before .before .before .before .before .before .before .before .before .before .args in
+    let l = c .before .before .before .before .before .before .before .before .loop in
+    let f = c .before .before .before .before .before .before .find in
+    let r = c .before .before .before .output-refusal in
+    turned (nthOutputRefusal (a .top)) outputOf (now (a .text)) (a .from) (a .place) (a .count) 4 (l .outputs) (l .j) (l .at) (omega arith) (l .inv) (omega arith) (f .result) (f .ensures) (omega arith) (r .result) (r .ensures) (c .output-of .result) (c .before .before .if2 .left) (c .output-of .ensures)
+
+returns-3 : tie.Need-returns-3 Inv-loop μ-loop
+returns-3 c =
+    let a = c .before .before .before .args in
+    let l = c .before .loop in
+    finished (nthOutputRefusal (a .top)) outputOf (now (a .text)) (a .from) (a .place) (a .count) 4 (l .outputs) (l .j) (l .at) (omega arith) (l .inv) (omega arith)
+
+pub outputs-spec : {M : Type 1} → statement M
+outputs-spec =
+    tie.close
+    (tie.spec
+    Inv-loop
+    μ-loop
+    loop-holds
+    find-requires
+    add-t14
+    returns
+    sub-output-refusal
+    part-output-refusal-start
+    part-output-refusal-end
+    output-refusal-requires
+    add-t19
+    returns-2
+    sub-output-of
+    part-output-of-start
+    part-output-of-end
+    output-of-requires
+    mul-outputs
+    array-set-from-outputs
+    add-at
+    add-j
+    loop-less
+    loop-again
+    returns-3)

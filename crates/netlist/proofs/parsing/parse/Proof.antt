@@ -1,0 +1,118 @@
+-- Each return is one of the laws of `Assembling`; the numbers of an accepted first line are within the limits that `body` asks for.
+use borrow.Author.Needs.{needs}
+use denote.Ref.{now}
+use lib.ListN.{drop}
+use mathlib.Core.Path.{sym, ap, _∙_, subst⁻¹}
+use native.Mathlib.Omega.{arith}
+use Prim.Native.Nat.{_+_}
+use Rattle.netlist.specs.Parsing.{bodyOf}
+use Rattle.netlist.specs.declared.Head.{Head}
+use Rattle.netlist.proofs.Acceptance.{HeadRight, head-fits}
+use Rattle.netlist.proofs.Assembling.{meant, too-long, no-head, head-stop, head-passed}
+use Rattle.netlist.proofs.parsing.parse.Statement.{statement}
+use Rattle.netlist.proofs.parsing.parse.Tie as tie
+
+refused-requires : tie.Need-refused-requires
+refused-requires c κs = search needs
+
+returns : tie.Need-returns
+returns c =
+    let text = now (c .before .before .before .args .text) in
+    let r = c .refused in
+    (meant (r .result) 1 0 (r .ensures .0) (r .ensures .1) (λ e. absurd (omega arith)) ∙ sym (too-long text (c .before .if1 .taken)), r .ensures .2)
+
+find-requires : tie.Need-find-requires
+find-requires c κs = search needs
+
+refused-requires-2 : tie.Need-refused-requires-2
+refused-requires-2 c κs = search needs
+
+returns-2 : tie.Need-returns-2
+returns-2 c =
+    let text = now (c .before .before .before .before .before .args .text) in
+    let r = c .refused2 in
+    let f = c .before .before .find in
+    (meant (r .result) 2 1 (r .ensures .0) (r .ensures .1) (λ e. absurd (omega arith)) ∙ sym (no-head text (c .before .before .before .if1 .left) (f .result) (f .ensures) (c .before .if2 .taken)), r .ensures .2)
+
+sub-head-refusal : tie.Need-sub-head-refusal
+sub-head-refusal c = search needs
+
+part-head-refusal-start : tie.Need-part-head-refusal-start
+part-head-refusal-start c = search needs
+
+part-head-refusal-end : tie.Need-part-head-refusal-end
+part-head-refusal-end c = search needs
+
+head-refusal-requires : tie.Need-head-refusal-requires
+head-refusal-requires c κs = search needs
+
+refused-requires-3 : tie.Need-refused-requires-3
+refused-requires-3 c κs = search needs
+
+returns-3 : tie.Need-returns-3
+returns-3 c =
+    let text = now (c .before .before .before .before .before .before .before .before .args .text) in
+    let r = c .refused3 in
+    let f = c .before .before .before .before .before .find in
+    let h = c .before .before .head-refusal in
+    let stopped = c .before .if3 .taken in (
+      meant (r .result) (h .result) 1 (r .ensures .0) (r .ensures .1) stopped
+          ∙ sym (head-stop text (c .before .before .before .before .before .before .if1 .left) (f .result) (f .ensures) (c .before .before .before .before .if2 .left) (h .result) (h .ensures) stopped),
+      r .ensures .2,
+    )
+
+add-body : tie.Need-add-body
+add-body c = search needs
+
+sub-head-of : tie.Need-sub-head-of
+sub-head-of c = search needs
+
+part-head-of-start : tie.Need-part-head-of-start
+part-head-of-start c = search needs
+
+part-head-of-end : tie.Need-part-head-of-end
+part-head-of-end c = search needs
+
+head-of-requires : tie.Need-head-of-requires
+head-of-requires c κs = search needs
+
+body-requires : tie.Need-body-requires
+body-requires c κs =
+    let h = c .before .before .before .head-refusal in
+    let right = subst⁻¹ HeadRight (c .head-of .ensures) (head-fits _ (sym (h .ensures) ∙ c .before .before .if3 .left)) in
+    (right .inputs-high, right .gates-high, right .outputs-high, right .faults-high)
+
+returns-4 : tie.Need-returns-4
+returns-4 c =
+    let text = now (c .before .before .before .before .before .before .before .before .before .before .args .text) in
+    let f = c .before .before .before .before .before .before .before .find in
+    let h = c .before .before .before .before .head-refusal in
+    let o = c .before .head-of in (
+      c .body .ensures .0
+          ∙ ap (λ (x : Head). bodyOf x (drop (f .result + 1) text)) (o .ensures)
+          ∙ sym (head-passed text (c .before .before .before .before .before .before .before .before .if1 .left) (f .result) (f .ensures) (c .before .before .before .before .before .before .if2 .left) (h .result) (h .ensures) (c .before .before .before .if3 .left)),
+      c .body .ensures .1,
+    )
+
+pub parse-spec : {M : Type 1} → statement M
+parse-spec =
+    tie.close
+    (tie.spec
+    refused-requires
+    returns
+    find-requires
+    refused-requires-2
+    returns-2
+    sub-head-refusal
+    part-head-refusal-start
+    part-head-refusal-end
+    head-refusal-requires
+    refused-requires-3
+    returns-3
+    add-body
+    sub-head-of
+    part-head-of-start
+    part-head-of-end
+    head-of-requires
+    body-requires
+    returns-4)

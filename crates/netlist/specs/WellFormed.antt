@@ -1,0 +1,69 @@
+-- What an accepted circuit satisfies, for those who use it: document 01's ranges, "Each of A and B is below the gate's own line", and outputs
+-- and faults that name lines of the circuit, a fault's lines rising.
+use Prim.Native.Nat.{ℕ, _+_, _<_, _≤_}
+use mathlib.Core.Logic.{_⊎_}
+use mathlib.Core.Path.{_≡_}
+use lib.IntN.{pos, natAbs}
+use lib.ListN.{length, getD}
+use Rattle.netlist.specs.Circuits.{Netlist, sound}
+use Rattle.netlist.specs.Rows.{noOutput}
+use Rattle.netlist.specs.declared.Fault.{Fault}
+use Rattle.netlist.specs.declared.Gate.{Gate}
+use Rattle.netlist.specs.declared.Kind.{Kind}
+use Rattle.netlist.specs.declared.Kind.the-variants.{And, Or, Nand, Nor, Xor, Xnor, Not}
+use Rattle.netlist.specs.declared.Output.{Output}
+use Rattle.netlist.specs.declared.Stuck.{Stuck}
+
+-- "B is 1 to 56, and 0 for `not`"
+abbrev pub SecondRight : Kind → ℕ → Type 0
+SecondRight And b = 1 ≤ b
+SecondRight Or b = 1 ≤ b
+SecondRight Nand b = 1 ≤ b
+SecondRight Nor b = 1 ≤ b
+SecondRight Xor b = 1 ≤ b
+SecondRight Xnor b = 1 ≤ b
+SecondRight Not b = b ≡ 0
+
+pub record GateRight (own : ℕ) (g : Gate) : Type 0 where
+  pub first : 1 ≤ g .a
+  pub second : SecondRight (g .kind) (g .b)
+  pub first-below : g .a < own
+  pub second-below : g .b < own
+
+pub record OutputRight (top : ℕ) (o : Output) : Type 0 where
+  pub line-low : 1 ≤ o .line
+  pub line-high : o .line ≤ top
+  pub weight-low : 1 ≤ natAbs (o .weight)
+  pub weight-high : natAbs (o .weight) ≤ 15
+  pub weight-whole : o .weight ≡ pos (natAbs (o .weight))
+
+-- a pair that is not there, or one whose line is above `last`
+abbrev pub Above : ℕ → ℕ → Stuck → Type 0
+Above last top s = (s .line ≡ 0) ⊎ ((last < s .line) × (s .line ≤ top))
+
+pub record FaultRight (top : ℕ) (f : Fault) : Type 0 where
+  pub first-low : 1 ≤ f .first .line
+  pub first-high : f .first .line ≤ top
+  pub second : Above (f .first .line) top (f .second)
+  pub third : Above (f .second .line) top (f .third)
+  pub no-gap : f .second .line ≡ 0 → f .third .line ≡ 0
+
+abbrev pub noGate : Gate
+noGate = record { kind = And; a = 0; b = 0 }
+
+abbrev pub topOf : Netlist → ℕ
+topOf n = n .inputs + length (n .gates)
+
+pub record WellFormed (n : Netlist) : Type 0 where
+  pub inputs-low : 1 ≤ n .inputs
+  pub inputs-high : n .inputs ≤ 8
+  pub gates-high : length (n .gates) ≤ 48
+  pub outputs-low : 1 ≤ length (n .outputs)
+  pub outputs-high : length (n .outputs) ≤ 4
+  pub faults-low : 1 ≤ length (n .faults)
+  pub faults-high : length (n .faults) ≤ 32
+  pub cap-low : 1 ≤ n .cap
+  pub cap-high : n .cap ≤ 4
+  pub gates-right : (j : ℕ) → j < length (n .gates) → GateRight (n .inputs + j + 1) (getD (n .gates) j noGate)
+  pub outputs-right : (k : ℕ) → k < length (n .outputs) → OutputRight (topOf n) (getD (n .outputs) k noOutput)
+  pub faults-right : (k : ℕ) → k < length (n .faults) → FaultRight (topOf n) (getD (n .faults) k sound)

@@ -1,0 +1,260 @@
+// The circuit text, line by line.
+use crate::Circuit;
+use crate::Fault;
+use crate::Gate;
+use crate::Head;
+use crate::Kind;
+use crate::Output;
+use crate::Parsed;
+use crate::Stuck;
+use crate::lines;
+ghost use mathlib.Core.Path.{_≡_};
+ghost use mathlib.Core.List.{[]};
+ghost use Prim.Native.Nat.{_≤_, _+_};
+ghost use lib.ListN.{drop};
+ghost use Rattle.netlist.specs.Circuits.{Sized};
+ghost use Rattle.netlist.specs.Lines.{headRefusal, gateRefusal, gateOf, outputRefusal, outputOf, faultRefusal, faultOf};
+ghost use Rattle.netlist.specs.Parsing.{lineRefusal, linesOf, nthGateRefusal, nthOutputRefusal, nthFaultRefusal, bodyOf, parseOf, meaning};
+ghost use Rattle.netlist.specs.Steps.{readOf};
+
+// What the gate lines say; number 0 where none is refused, and then `at` is where the next line begins.
+struct GateLines {
+    number: u32,
+    place: usize,
+    at: usize,
+    gates: [Gate; 48],
+}
+
+struct OutputLines {
+    number: u32,
+    place: usize,
+    at: usize,
+    outputs: [Output; 4],
+}
+
+struct FaultLines {
+    number: u32,
+    place: usize,
+    at: usize,
+    faults: [Fault; 32],
+}
+
+fn gates(text: &[u8], from: usize, inputs: usize, count: usize) -> GateLines
+    requires { ⌜ (inputs ≤ 8) × (count ≤ 48) ⌝ }
+    ensures { λ r. ⌜ readOf (now (text .entry)) count (r .number) (r .place) (r .at) (r .gates) ≡ linesOf (nthGateRefusal inputs) gateOf count 2 (drop from (now (text .entry))) [] ⌝ }
+{
+    let none = Gate {
+        kind: Kind::And,
+        a: 0,
+        b: 0,
+    };
+    let mut gates = [none; 48];
+    let mut at = from;
+    let mut j: usize = 0;
+    while j < count {
+        let end = text::find(text, at, 10);
+        if text.len() <= end {
+            return GateLines {
+                number: 2,
+                place: 2 + j,
+                at,
+                gates,
+            };
+        }
+        let number = lines::gate_refusal(inputs + j + 1, &text[at..end]);
+        if number != 0 {
+            return GateLines {
+                number,
+                place: 2 + j,
+                at,
+                gates,
+            };
+        }
+        gates[j] = lines::gate_of(&text[at..end]);
+        at = end + 1;
+        j += 1;
+    }
+    GateLines {
+        number: 0,
+        place: 0,
+        at,
+        gates,
+    }
+}
+
+fn outputs(text: &[u8], from: usize, top: usize, count: usize, place: usize) -> OutputLines
+    requires { ⌜ (count ≤ 4) × (place ≤ 50) ⌝ }
+    ensures { λ r. ⌜ readOf (now (text .entry)) count (r .number) (r .place) (r .at) (r .outputs) ≡ linesOf (nthOutputRefusal top) outputOf count place (drop from (now (text .entry))) [] ⌝ }
+{
+    let none = Output { line: 0, weight: 0 };
+    let mut outputs = [none; 4];
+    let mut at = from;
+    let mut j: usize = 0;
+    while j < count {
+        let end = text::find(text, at, 10);
+        if text.len() <= end {
+            return OutputLines {
+                number: 2,
+                place: place + j,
+                at,
+                outputs,
+            };
+        }
+        let number = lines::output_refusal(top, &text[at..end]);
+        if number != 0 {
+            return OutputLines {
+                number,
+                place: place + j,
+                at,
+                outputs,
+            };
+        }
+        outputs[j] = lines::output_of(&text[at..end]);
+        at = end + 1;
+        j += 1;
+    }
+    OutputLines {
+        number: 0,
+        place: 0,
+        at,
+        outputs,
+    }
+}
+
+fn faults(text: &[u8], from: usize, top: usize, count: usize, place: usize) -> FaultLines
+    requires { ⌜ (count ≤ 32) × (place ≤ 54) ⌝ }
+    ensures { λ r. ⌜ readOf (now (text .entry)) count (r .number) (r .place) (r .at) (r .faults) ≡ linesOf (nthFaultRefusal top) faultOf count place (drop from (now (text .entry))) [] ⌝ }
+{
+    let free = Stuck {
+        line: 0,
+        value: false,
+    };
+    let none = Fault {
+        first: free,
+        second: free,
+        third: free,
+    };
+    let mut faults = [none; 32];
+    let mut at = from;
+    let mut j: usize = 0;
+    while j < count {
+        let end = text::find(text, at, 10);
+        if text.len() <= end {
+            return FaultLines {
+                number: 2,
+                place: place + j,
+                at,
+                faults,
+            };
+        }
+        let number = lines::fault_refusal(top, &text[at..end]);
+        if number != 0 {
+            return FaultLines {
+                number,
+                place: place + j,
+                at,
+                faults,
+            };
+        }
+        faults[j] = lines::fault_of(&text[at..end]);
+        at = end + 1;
+        j += 1;
+    }
+    FaultLines {
+        number: 0,
+        place: 0,
+        at,
+        faults,
+    }
+}
+
+// The answer to a text that is refused; its circuit is of no account.
+fn refused(number: u32, place: usize) -> Parsed
+    ensures { λ r. ⌜ (r .number ≡ number) × (r .place ≡ place) × Sized (r .circuit) ⌝ }
+{
+    let free = Stuck {
+        line: 0,
+        value: false,
+    };
+    let fault = Fault {
+        first: free,
+        second: free,
+        third: free,
+    };
+    let output = Output { line: 0, weight: 0 };
+    let gate = Gate {
+        kind: Kind::And,
+        a: 0,
+        b: 0,
+    };
+    Parsed {
+        number,
+        place,
+        circuit: Circuit {
+            head: Head {
+                inputs: 0,
+                gates: 0,
+                outputs: 0,
+                faults: 0,
+                cap: 0,
+            },
+            gates: [gate; 48],
+            outputs: [output; 4],
+            faults: [fault; 32],
+        },
+    }
+}
+
+// The lines behind the first, from `from` on.
+fn body(text: &[u8], from: usize, head: Head) -> Parsed
+    requires { ⌜ (head .inputs ≤ 8) × (head .gates ≤ 48) × (head .outputs ≤ 4) × (head .faults ≤ 32) ⌝ }
+    ensures { λ r. ⌜ (meaning r ≡ bodyOf head (drop from (now (text .entry)))) × Sized (r .circuit) ⌝ }
+{
+    let top = head.inputs + head.gates;
+    let g = gates(text, from, head.inputs, head.gates);
+    if g.number != 0 {
+        return refused(g.number, g.place);
+    }
+    let o = outputs(text, g.at, top, head.outputs, head.gates + 2);
+    if o.number != 0 {
+        return refused(o.number, o.place);
+    }
+    let f = faults(text, o.at, top, head.faults, head.gates + head.outputs + 2);
+    if f.number != 0 {
+        return refused(f.number, f.place);
+    }
+    if f.at < text.len() {
+        return refused(7, head.gates + head.outputs + head.faults + 2);
+    }
+    let gates = g.gates;
+    let outputs = o.outputs;
+    let faults = f.faults;
+    Parsed {
+        number: 0,
+        place: 0,
+        circuit: Circuit {
+            head,
+            gates,
+            outputs,
+            faults,
+        },
+    }
+}
+
+// The circuit that a text states, or the text's refusal, 1 to 7 with its place.
+pub fn parse(text: &[u8]) -> Parsed
+    ensures { λ r. ⌜ (meaning r ≡ parseOf (now (text .entry))) × Sized (r .circuit) ⌝ }
+{
+    if 16384 < text.len() {
+        return refused(1, 0);
+    }
+    let end = text::find(text, 0, 10);
+    if text.len() <= end {
+        return refused(2, 1);
+    }
+    let number = lines::head_refusal(&text[0..end]);
+    if number != 0 {
+        return refused(number, 1);
+    }
+    body(text, end + 1, lines::head_of(&text[0..end]))
+}

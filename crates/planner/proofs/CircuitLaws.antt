@@ -1,0 +1,82 @@
+-- The circuit call:
+--   coefficients-bounded    every coefficient of an accepted circuit, sound or under a fault, is from -15,360 to 15,360
+--   rows-bounded            its row values are from -60 to 60
+--   spectrum-room           the list call on such rows refuses by 8 only
+--   text-stop, fault-stop, served    the call's answer and what it leaves, by the parser's answer
+use mathlib.Core.Path.{_≡_, refl, sym, ap, _∙_, subst}
+use mathlib.Core.List.{List}
+use Prim.Native.Nat.{ℕ, _*_, _^_, _<_, _≤_}
+use native.Mathlib.Nat.{le-trans, mul-le-mul, le-refl}
+use native.Mathlib.Omega.{arith}
+use lib.Dec.{lit≤}
+use lib.IntN.{ℤ, pos, natAbs}
+use lib.ListN.{length}
+use lib.Pow.{pow-mono}
+use lib.Seq.{length-take-le}
+use borrow.Author.Tests.{lt-ltb, le-ltb, eq-eqb, ne-eqb}
+use Rattle.integer.specs.Tab.{Within}
+use Rattle.netlist.specs.Circuits.{Netlist, netlistOf, Sized, faultAt}
+use Rattle.netlist.specs.Parsing.{accepted, rejected, parseOf, meaning}
+use Rattle.netlist.specs.Rows.{rowsOf}
+use Rattle.netlist.specs.WellFormed.{WellFormed}
+use Rattle.netlist.specs.declared.Circuit.{Circuit}
+use Rattle.netlist.specs.declared.Fault.{Fault}
+use Rattle.netlist.specs.declared.Parsed.{Parsed}
+use Rattle.netlist.proofs.Acceptance.{well-formed}
+use Rattle.netlist.proofs.Assembling.{meant}
+use Rattle.netlist.proofs.RowBounds.{length-rows, rows-within}
+use Rattle.walsh.specs.Answers.{minus, screenOf, inputsOf}
+use Rattle.walsh.specs.Lists.{spectrumAnswer}
+use Rattle.walsh.specs.declared.Answer.the-variants.{Done, Refused}
+use Rattle.walsh.proofs.Screens.{inputs-is, within-screened}
+use Rattle.walsh.proofs.Spectra.{within-spectrum}
+use Rattle.planner.specs.CircuitCall.{roomAnswer, faultAnswer, circuitAnswer, faultSpectrum, circuitSpectrum}
+
+pub rows-bounded : (n : Netlist) (f : Fault) → WellFormed n → Within 60 (rowsOf n f)
+rows-bounded n f w = rows-within 15 n f (w .outputs-high) (λ k l. w .outputs-right k l .weight-high)
+
+pub coefficients-bounded : (text : List ℕ) (n : Netlist) (fault : ℕ) → parseOf text ≡ accepted n → Within 15360 (faultSpectrum n fault)
+unfolding faultSpectrum
+coefficients-bounded text n fault e x l =
+    let w = well-formed text n e in
+    let f = faultAt n fault in
+    let few : length (rowsOf n f) ≤ 256 = subst (λ k. k ≤ 256) (sym (length-rows n f)) (pow-mono (w .inputs-high)) in
+    le-trans (within-spectrum 60 (rowsOf n f) (rows-bounded n f w) x l) (mul-le-mul few (le-refl 60))
+
+pub spectrum-room : (rows : List ℤ) (k room : ℕ) → 1 ≤ k → k ≤ 8 → length rows ≡ 2 ^ k → Within 1000 rows → spectrumAnswer rows room ≡ roomAnswer k room
+unfolding spectrumAnswer screenOf roomAnswer
+spectrum-room rows k room low high e w =
+    let sized : inputsOf (length rows) ≡ k = ap inputsOf e ∙ inputs-is k (omega arith) (omega arith) in
+    let some : inputsOf (length rows) ≡ 0 → ⊥ = λ z. omega (arith, sized) in
+    rw (ne-eqb (inputsOf (length rows)) 0 some, le-ltb _ (length rows) (within-screened 1000 rows w), e)
+
+-- by the parser's answer p
+module _ (text : List ℕ) (fault room : ℕ) (p : Parsed) (means : meaning p ≡ parseOf text) where
+  pub text-stop : (p .number ≡ 0 → ⊥) → circuitAnswer text fault room ≡ Refused (p .number) (p .place)
+  unfolding circuitAnswer
+  text-stop n = rw (sym means, meant p (p .number) (p .place) refl refl n)
+
+  module _ (number : p .number ≡ 0) where
+    pub accepted-as : parseOf text ≡ accepted (netlistOf (p .circuit))
+    unfolding meaning
+    accepted-as = sym means ∙ rw (eq-eqb (p .number) 0 number)
+
+    pub right : WellFormed (netlistOf (p .circuit))
+    right = well-formed text (netlistOf (p .circuit)) accepted-as
+
+    pub served-spectrum : circuitSpectrum text fault ≡ faultSpectrum (netlistOf (p .circuit)) fault
+    unfolding circuitSpectrum
+    served-spectrum = rw accepted-as
+
+    module _ (size : Sized (p .circuit)) (filled : length (p .circuit .faults) ≡ 32) where
+      count : length (netlistOf (p .circuit) .faults) ≡ p .circuit .head .faults
+      unfolding netlistOf
+      count = length-take-le (p .circuit .head .faults) (p .circuit .faults) (omega (arith, size .faults))
+
+      pub fault-stop : p .circuit .head .faults < fault → circuitAnswer text fault room ≡ Refused 12 0
+      unfolding circuitAnswer faultAnswer
+      fault-stop h = rw (accepted-as, count, lt-ltb (p .circuit .head .faults) fault h)
+
+      pub served : fault ≤ p .circuit .head .faults → circuitAnswer text fault room ≡ roomAnswer (p .circuit .head .inputs) room
+      unfolding circuitAnswer faultAnswer netlistOf
+      served h = rw (accepted-as, count, le-ltb (p .circuit .head .faults) fault h)
