@@ -4,6 +4,8 @@ use walsh::Answer;
 use walsh::Found;
 ghost use mathlib.Core.Path.{_≡_};
 ghost use lib.ListN.{length};
+ghost use Rattle.planner.specs.CircuitCall.{circuitAnswer, circuitSpectrum};
+ghost use Rattle.text.specs.Text.{fieldOf, fieldStart};
 ghost use Rattle.walsh.specs.Answers.{leaves, foundOf};
 ghost use Rattle.walsh.specs.Faults.{stuckOf, stuckAnswer, stuckSpectrumOf, openedAnswer, openedSpectrumOf};
 ghost use Rattle.walsh.specs.Lists.{spectrumAnswer, rowsAnswer, rowsOf};
@@ -23,6 +25,13 @@ pub struct Sum {
     pub number: u32,
     pub value: i32,
     pub place: usize,
+}
+
+// A part of a lent text.
+#[repr(C)]
+pub struct Part {
+    pub start: usize,
+    pub length: usize,
 }
 
 fn reply_to(a: Answer) -> Reply
@@ -95,4 +104,25 @@ pub extern "C" fn walsh_opened(coefficients: &[i32], values: &[u32], out: &mut [
     ensures { λ r. ⌜ now (out .exit) ≡ leaves (openedAnswer (now (coefficients .entry)) (now (values .entry)) (length (now (out .entry)))) (openedSpectrumOf (now (coefficients .entry)) (now (values .entry))) (now (out .entry)) ⌝ }
 {
     reply_to(walsh::opened(coefficients, values, out))
+}
+
+// The spectrum of the text's circuit, sound for fault 0, else under that fault.
+#[no_mangle]
+pub extern "C" fn walsh_circuit(text: &[u8], fault: u32, out: &mut [i32]) -> Reply
+    ensures { λ r. ⌜ Gives r (circuitAnswer (now (text .entry)) fault (length (now (out .entry)))) ⌝ }
+    ensures { λ r. ⌜ now (out .exit) ≡ leaves (circuitAnswer (now (text .entry)) fault (length (now (out .entry)))) (circuitSpectrum (now (text .entry)) fault) (now (out .entry)) ⌝ }
+{
+    reply_to(planner::circuit_spectrum(text, fault, out))
+}
+
+// Field `number` of the text, from 0; at the text's end where there is none.
+#[no_mangle]
+pub extern "C" fn walsh_field(text: &[u8], number: usize) -> Part
+    ensures { λ r. ⌜ (r .start ≡ fieldStart (now (text .entry)) number) × (r .length ≡ length (fieldOf (now (text .entry)) number)) ⌝ }
+{
+    let s = text::locate(text, number);
+    Part {
+        start: s.start,
+        length: s.end - s.start,
+    }
 }

@@ -19,11 +19,10 @@ use Rattle.text.specs.Text.{before, after, lineEnd, indexOf, fieldOf, fieldCoun
 use Rattle.text.proofs.Decimals.{both}
 use Rattle.text.proofs.Parts.{no-field}
 use Rattle.text.proofs.Words.{same-equal}
-use Rattle.netlist.specs.Circuits.{Netlist, sound}
+use Rattle.netlist.specs.Circuits.{Netlist, noGate, noOutput, sound}
 use Rattle.netlist.specs.Lines.{unless, valueOf, valueAt, isLine, fits, faultWord, isHead, headFits, headRefusal, headOf, isKind, kindOf, notWord, andWord, orWord, nandWord, norWord, xorWord, xnorWord, isGate, gateFits, readsBelow, gateRefusal, gateOf, isOutput, outputFits, outputRefusal, outputOf, isFault, pairFits, faultFits, linesExist, risesAt, linesRise, faultRefusal, stuckAt, faultOf}
 use Rattle.netlist.specs.Parsing.{Read, items, refused, lineRefusal, linesOf, nthGateRefusal, nthOutputRefusal, nthFaultRefusal, gatesIn, outputsIn, faultsIn, Parse, accepted, rejected, onRead, endOf, bodyOf, parseOf}
-use Rattle.netlist.specs.Rows.{noOutput}
-use Rattle.netlist.specs.WellFormed.{SecondRight, GateRight, OutputRight, Above, FaultRight, noGate, WellFormed}
+use Rattle.netlist.specs.WellFormed.{SecondRight, GateRight, OutputRight, Above, FaultRight, WellFormed}
 use Rattle.netlist.specs.declared.Fault.{Fault}
 use Rattle.netlist.specs.declared.Gate.{Gate}
 use Rattle.netlist.specs.declared.Head.{Head}

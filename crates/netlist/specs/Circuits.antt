@@ -7,7 +7,7 @@ use lib.ListN.{take, getD}
 use Rattle.netlist.specs.declared.Circuit.{Circuit}
 use Rattle.netlist.specs.declared.Fault.{Fault}
 use Rattle.netlist.specs.declared.Gate.{Gate}
-use Rattle.netlist.specs.declared.Head.{Head}
+use Rattle.netlist.specs.declared.Kind.the-variants.{And}
 use Rattle.netlist.specs.declared.Output.{Output}
 use Rattle.netlist.specs.declared.Stuck.{Stuck}
 
@@ -35,6 +35,13 @@ pub record Sized (c : Circuit) : Type 0 where
   pub gates : c .head .gates ≤ 48
   pub outputs : c .head .outputs ≤ 4
   pub faults : c .head .faults ≤ 32
+
+-- what is read past the last gate or output
+abbrev pub noGate : Gate
+noGate = record { kind = And; a = 0; b = 0 }
+
+abbrev pub noOutput : Output
+noOutput = record { line = 0; weight = pos 0 }
 
 -- a pair that names no line: lines count from 1
 abbrev pub free : Stuck

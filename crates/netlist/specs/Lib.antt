@@ -1,6 +1,5 @@
 pub mod Circuits
 pub mod Lines
 pub mod Parsing
-pub mod Rows
 pub mod Steps
 pub mod WellFormed

@@ -5,8 +5,7 @@ use mathlib.Core.Logic.{_⊎_}
 use mathlib.Core.Path.{_≡_}
 use lib.IntN.{pos, natAbs}
 use lib.ListN.{length, getD}
-use Rattle.netlist.specs.Circuits.{Netlist, sound}
-use Rattle.netlist.specs.Rows.{noOutput}
+use Rattle.netlist.specs.Circuits.{Netlist, noGate, noOutput, sound}
 use Rattle.netlist.specs.declared.Fault.{Fault}
 use Rattle.netlist.specs.declared.Gate.{Gate}
 use Rattle.netlist.specs.declared.Kind.{Kind}
@@ -47,9 +46,6 @@ pub record FaultRight (top : ℕ) (f : Fault) : Type 0 where
   pub second : Above (f .first .line) top (f .second)
   pub third : Above (f .second .line) top (f .third)
   pub no-gap : f .second .line ≡ 0 → f .third .line ≡ 0
-
-abbrev pub noGate : Gate
-noGate = record { kind = And; a = 0; b = 0 }
 
 abbrev pub topOf : Netlist → ℕ
 topOf n = n .inputs + length (n .gates)

@@ -1,11 +1,7 @@
-// The circuit text: its parser with refusals 1 to 7, and the rows of a circuit, sound or under a fault. Spectra and plans are the business of
-// other crates.
-mod evaluation;
+// The circuit as data, and the parser of the circuit text with refusals 1 to 7. What a circuit computes is the business of other crates.
 mod lines;
 mod parsing;
 
-pub use evaluation::fault_at;
-pub use evaluation::rows;
 pub use parsing::parse;
 
 pub enum Kind {

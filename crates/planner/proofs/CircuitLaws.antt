@@ -17,14 +17,14 @@ use borrow.Author.Tests.{lt-ltb, le-ltb, eq-eqb, ne-eqb}
 use Rattle.integer.specs.Tab.{Within}
 use Rattle.netlist.specs.Circuits.{Netlist, netlistOf, Sized, faultAt}
 use Rattle.netlist.specs.Parsing.{accepted, rejected, parseOf, meaning}
-use Rattle.netlist.specs.Rows.{rowsOf}
+use Rattle.simulation.specs.Rows.{rowsOf}
 use Rattle.netlist.specs.WellFormed.{WellFormed}
 use Rattle.netlist.specs.declared.Circuit.{Circuit}
 use Rattle.netlist.specs.declared.Fault.{Fault}
 use Rattle.netlist.specs.declared.Parsed.{Parsed}
 use Rattle.netlist.proofs.Acceptance.{well-formed}
 use Rattle.netlist.proofs.Assembling.{meant}
-use Rattle.netlist.proofs.RowBounds.{length-rows, rows-within}
+use Rattle.simulation.proofs.RowBounds.{length-rows, rows-within}
 use Rattle.walsh.specs.Answers.{minus, screenOf, inputsOf}
 use Rattle.walsh.specs.Lists.{spectrumAnswer}
 use Rattle.walsh.specs.declared.Answer.the-variants.{Done, Refused}

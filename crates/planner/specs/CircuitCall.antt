@@ -8,7 +8,7 @@ use lib.IntN.{ℤ}
 use lib.ListN.{length}
 use Rattle.netlist.specs.Circuits.{Netlist, faultAt}
 use Rattle.netlist.specs.Parsing.{Parse, accepted, rejected, parseOf}
-use Rattle.netlist.specs.Rows.{rowsOf}
+use Rattle.simulation.specs.Rows.{rowsOf}
 use Rattle.walsh.specs.Answers.{choose}
 use Rattle.walsh.specs.Spectrum.{spectrumOf}
 use Rattle.walsh.specs.declared.Answer.{Answer}

@@ -7,7 +7,7 @@ ghost use Prim.Native.Nat.{_^_, _≤_};
 ghost use lib.ListN.{length};
 ghost use Rattle.integer.specs.Tab.{Within};
 ghost use Rattle.netlist.specs.Circuits.{netlistOf, Sized};
-ghost use Rattle.netlist.specs.Rows.{rowsOf};
+ghost use Rattle.simulation.specs.Rows.{rowsOf};
 ghost use Rattle.walsh.specs.Answers.{leaves};
 ghost use Rattle.walsh.specs.Spectrum.{spectrumOf};
 ghost use Rattle.planner.specs.CircuitCall.{roomAnswer, circuitAnswer, circuitSpectrum};
@@ -19,7 +19,7 @@ fn spectrum_by(c: Circuit, f: Fault, rows: &mut [i32], out: &mut [i32]) -> Answe
     ensures { λ r. ⌜ r ≡ roomAnswer (c .head .inputs) (length (now (out .entry))) ⌝ }
     ensures { λ r. ⌜ now (out .exit) ≡ leaves r (spectrumOf (rowsOf (netlistOf c) f)) (now (out .entry)) ⌝ }
 {
-    netlist::rows(c, f, rows);
+    simulation::rows(c, f, rows);
     walsh::spectrum(rows, out)
 }
 
@@ -57,5 +57,5 @@ pub fn circuit_spectrum(text: &[u8], fault: u32, out: &mut [i32]) -> Answer
             place: 0,
         };
     }
-    fault_spectrum(c, netlist::fault_at(c, which), out)
+    fault_spectrum(c, simulation::fault_at(c, which), out)
 }

@@ -7,9 +7,9 @@ use native.Mathlib.Nat.{le-trans}
 use lib.Dec.{lit≤}
 use lib.IntN.{ℤ}
 use lib.ListN.{length}
-use Rattle.netlist.proofs.Padding.{length-mapped}
+use Rattle.simulation.proofs.Padding.{length-mapped}
 use Rattle.netlist.specs.Circuits.{netlistOf}
-use Rattle.netlist.specs.Rows.{rowsOf}
+use Rattle.simulation.specs.Rows.{rowsOf}
 use Rattle.netlist.specs.declared.Fault.{Fault}
 use Rattle.walsh.specs.Answers.{leaves}
 use Rattle.walsh.specs.Spectrum.{spectrumOf}

@@ -6,8 +6,8 @@ use denote.Ref.{now}
 use lib.IntN.{ℤ}
 use lib.ListN.{length}
 use Rattle.netlist.specs.Circuits.{netlistOf}
-use Rattle.netlist.specs.Rows.{rowsOf}
-use Rattle.netlist.proofs.RowBounds.{length-rows}
+use Rattle.simulation.specs.Rows.{rowsOf}
+use Rattle.simulation.proofs.RowBounds.{length-rows}
 use Rattle.walsh.specs.Answers.{leaves}
 use Rattle.walsh.specs.Lists.{spectrumAnswer}
 use Rattle.walsh.specs.Spectrum.{spectrumOf}

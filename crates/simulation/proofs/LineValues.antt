@@ -16,14 +16,13 @@ use lib.Pow.{shr-shr}
 use lib.Seq.{take-suc, getD-take, length-take-le}
 use Rattle.integer.specs.Tab.{tab}
 use Rattle.integer.proofs.Tabs.{length-tab}
-use Rattle.netlist.specs.Circuits.{netlistOf, Sized, faultAt, sound}
-use Rattle.netlist.specs.Rows.{gateValue, shown, inputShown, inputValues, reads, gateNext, gatesNext, lineValues}
-use Rattle.netlist.specs.Steps.{padded, slotOf}
+use Rattle.netlist.specs.Circuits.{netlistOf, Sized, faultAt, noGate, sound}
+use Rattle.simulation.specs.Rows.{gateValue, shown, inputShown, inputValues, reads, gateNext, gatesNext, lineValues}
+use Rattle.simulation.specs.Steps.{padded, slotOf}
 use Rattle.netlist.specs.declared.Circuit.{Circuit}
 use Rattle.netlist.specs.declared.Fault.{Fault}
 use Rattle.netlist.specs.declared.Gate.{Gate}
-use Rattle.netlist.specs.declared.Kind.the-variants.{And}
-use Rattle.netlist.proofs.Padding.{set-padded, reads-slot}
+use Rattle.simulation.proofs.Padding.{set-padded, reads-slot}
 
 pub halved : (x i : ℕ) → x / 2 ^ i / 2 ≡ x / 2 ^ (i + 1)
 halved x i = shr-shr x i 1
@@ -42,10 +41,6 @@ module _ (f : Fault) (x : ℕ) where
   input-turn i h is =
       let n = length-inputs i in
       rw is (set-padded (inputValues f x i) (inputShown f x i) (i + 1) (sym n) (omega arith) ∙ ap padded (input-more i))
-
--- what is read past the end of an array of gates
-abbrev pub noGate : Gate
-noGate = record { kind = And; a = 0; b = 0 }
 
 module _ (f : Fault) where
   gates-snoc : (l : List Bool) (gates : List Gate) (g : Gate) → gatesNext f l (gates ++ (g ∷ [])) ≡ gateNext f (gatesNext f l gates) g

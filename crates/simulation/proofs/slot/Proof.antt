@@ -1,8 +1,8 @@
 use borrow.Author.Needs.{needs}
 use borrow.Author.Tests.{lt-ltb, le-ltb}
-use Rattle.netlist.specs.Steps.{slotOf}
-use Rattle.netlist.proofs.evaluation.slot.Statement.{statement}
-use Rattle.netlist.proofs.evaluation.slot.Tie as tie
+use Rattle.simulation.specs.Steps.{slotOf}
+use Rattle.simulation.proofs.slot.Statement.{statement}
+use Rattle.simulation.proofs.slot.Tie as tie
 
 returns : tie.Need-returns
 unfolding slotOf

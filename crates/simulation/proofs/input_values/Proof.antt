@@ -6,11 +6,11 @@ use native.Mathlib.Omega.{arith}
 use lib.Dec.{eqb}
 use lib.ListN.{set}
 use Rattle.integer.specs.Tab.{tab}
-use Rattle.netlist.specs.Rows.{shown, inputShown, inputValues}
-use Rattle.netlist.specs.Steps.{padded}
-use Rattle.netlist.proofs.LineValues.{halved, input-turn}
-use Rattle.netlist.proofs.evaluation.input_values.Statement.{statement}
-use Rattle.netlist.proofs.evaluation.input_values.Tie as tie
+use Rattle.simulation.specs.Rows.{shown, inputShown, inputValues}
+use Rattle.simulation.specs.Steps.{padded}
+use Rattle.simulation.proofs.LineValues.{halved, input-turn}
+use Rattle.simulation.proofs.input_values.Statement.{statement}
+use Rattle.simulation.proofs.input_values.Tie as tie
 
 abbrev Inv-loop : tie.InvT-loop
 Inv-loop f x inputs values₀ rest₀ i₀ values rest i = (i ≤ inputs) × (rest ≡ x / 2 ^ i) × (values ≡ padded (inputValues f x i))

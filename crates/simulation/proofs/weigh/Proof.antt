@@ -4,10 +4,10 @@ use mathlib.Core.Path.{sym, ap, _∙_, subst⁻¹}
 use mathlib.Core.Bool.{Bool}
 use Prim.Native.Nat.{_≤_}
 use lib.IntN.{ℤ, natAbs}
-use Rattle.netlist.specs.Rows.{weighed}
-use Rattle.netlist.proofs.RowValues.{weight-small, weight-widens, weight-kept}
-use Rattle.netlist.proofs.evaluation.weigh.Statement.{statement}
-use Rattle.netlist.proofs.evaluation.weigh.Tie as tie
+use Rattle.simulation.specs.Rows.{weighed}
+use Rattle.simulation.proofs.RowValues.{weight-small, weight-widens, weight-kept}
+use Rattle.simulation.proofs.weigh.Statement.{statement}
+use Rattle.simulation.proofs.weigh.Tie as tie
 
 cast-result : tie.Need-cast-result
 cast-result c = weight-widens (c .before .args .weight) (c .before .fits .weight)

@@ -1,8 +1,8 @@
 use borrow.Author.Needs.{needs}
 use mathlib.Core.Path.{_∙_}
-use Rattle.netlist.specs.Rows.{shown}
-use Rattle.netlist.proofs.evaluation.show.Statement.{statement}
-use Rattle.netlist.proofs.evaluation.show.Tie as tie
+use Rattle.simulation.specs.Rows.{shown}
+use Rattle.simulation.proofs.show.Statement.{statement}
+use Rattle.simulation.proofs.show.Tie as tie
 
 stuck-or-requires : tie.Need-stuck-or-requires
 stuck-or-requires c κs = search needs

@@ -8,13 +8,13 @@ use lib.IntN.{ℤ, pos}
 use lib.ListN.{length, getD}
 use Rattle.integer.specs.Sum.{sumTo}
 use Rattle.integer.specs.Tab.{tab}
-use Rattle.netlist.specs.Circuits.{Netlist}
+use Rattle.netlist.specs.Circuits.{Netlist, noOutput}
 use Rattle.netlist.specs.declared.Fault.{Fault}
 use Rattle.netlist.specs.declared.Gate.{Gate}
 use Rattle.netlist.specs.declared.Kind.{Kind}
 use Rattle.netlist.specs.declared.Kind.the-variants.{And, Or, Nand, Nor, Xor, Xnor, Not}
 use Rattle.netlist.specs.declared.Output.{Output}
 use Rattle.netlist.specs.declared.Stuck.{Stuck}
 
 -- "Gates have their usual truth values."
 unfoldable pub gateValue : Kind → Bool → Bool → Bool
@@ -61,9 +61,6 @@ lineValues n f x = gatesNext f (inputValues f x (n .inputs)) (n .gates)
 abbrev pub weighed : Bool → ℤ → ℤ
 weighed true weight = weight
 weighed false weight = pos 0
-
-abbrev pub noOutput : Output
-noOutput = record { line = 0; weight = pos 0 }
 
 abbrev pub outputTerm : List Bool → List Output → ℕ → ℤ
 outputTerm l outputs k = weighed (reads l (getD outputs k noOutput .line)) (getD outputs k noOutput .weight)

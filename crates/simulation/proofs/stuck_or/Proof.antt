@@ -1,8 +1,8 @@
 use borrow.Author.Needs.{needs}
 use borrow.Author.Tests.{eq-eqb, ne-eqb}
-use Rattle.netlist.specs.Rows.{stuckOr}
-use Rattle.netlist.proofs.evaluation.stuck_or.Statement.{statement}
-use Rattle.netlist.proofs.evaluation.stuck_or.Tie as tie
+use Rattle.simulation.specs.Rows.{stuckOr}
+use Rattle.simulation.proofs.stuck_or.Statement.{statement}
+use Rattle.simulation.proofs.stuck_or.Tie as tie
 
 cast-if1 : tie.Need-cast-if1
 cast-if1 c = search needs

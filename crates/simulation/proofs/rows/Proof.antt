@@ -8,11 +8,11 @@ use lib.ListN.{length, drop, length-set}
 use mir.Syntax.{w32}
 use mir.ValLaws.{toZ-ofZ}
 use Rattle.integer.specs.Tab.{tab}
 use Rattle.netlist.specs.Circuits.{netlistOf}
-use Rattle.netlist.specs.Rows.{rowValue}
-use Rattle.netlist.proofs.RowValues.{rows-few, row-turn, rows-done}
-use Rattle.netlist.proofs.evaluation.rows.Statement.{statement}
-use Rattle.netlist.proofs.evaluation.rows.Tie as tie
+use Rattle.simulation.specs.Rows.{rowValue}
+use Rattle.simulation.proofs.RowValues.{rows-few, row-turn, rows-done}
+use Rattle.simulation.proofs.rows.Statement.{statement}
+use Rattle.simulation.proofs.rows.Tie as tie
 
 abbrev Inv-loop : tie.InvT-loop
 Inv-loop c f out₀ x₀ out x = (x ≤ length out₀) × (length out ≡ length out₀) × (out ≡ tab x (rowValue (netlistOf c) f) ++ drop x out₀)

@@ -2,10 +2,10 @@
 use borrow.Author.Needs.{needs}
 use mathlib.Core.Path.{_≡_, sym, ap}
 use mathlib.Core.Bool.{Bool, xor}
-use Rattle.netlist.specs.Rows.{gateValue}
+use Rattle.simulation.specs.Rows.{gateValue}
 use Rattle.netlist.specs.declared.Kind.{Kind}
-use Rattle.netlist.proofs.evaluation.gate_value.Statement.{statement}
-use Rattle.netlist.proofs.evaluation.gate_value.Tie as tie
+use Rattle.simulation.proofs.gate_value.Statement.{statement}
+use Rattle.simulation.proofs.gate_value.Tie as tie
 
 by-kind : {k : Kind} (kind : Kind) (a b : Bool) → kind ≡ k → gateValue k a b ≡ gateValue kind a b
 by-kind kind a b e = ap (λ (k : Kind). gateValue k a b) (sym e)

@@ -23,14 +23,14 @@ use Rattle.integer.specs.Tab.{tab}
 use Rattle.integer.proofs.Bounds.{natAbs-add, sfits-abs}
 use Rattle.integer.proofs.Sums.{sum-ext}
 use Rattle.integer.proofs.Tabs.{tab-step}
-use Rattle.netlist.specs.Circuits.{Netlist, netlistOf, Sized}
-use Rattle.netlist.specs.Rows.{weighed, noOutput, outputTerm, lineValues, rowValue, rowsOf, reads}
-use Rattle.netlist.specs.Steps.{padded, slotOf}
+use Rattle.netlist.specs.Circuits.{Netlist, netlistOf, Sized, noOutput}
+use Rattle.simulation.specs.Rows.{weighed, outputTerm, lineValues, rowValue, rowsOf, reads}
+use Rattle.simulation.specs.Steps.{padded, slotOf}
 use Rattle.netlist.specs.declared.Circuit.{Circuit}
 use Rattle.netlist.specs.declared.Fault.{Fault}
 use Rattle.netlist.specs.declared.Output.{Output}
-use Rattle.netlist.proofs.Padding.{reads-slot}
-use Rattle.netlist.proofs.LineValues.{lines-few}
+use Rattle.simulation.proofs.Padding.{reads-slot}
+use Rattle.simulation.proofs.LineValues.{lines-few}
 
 module _ (z : ℤ) (fits : SFits w16 z) where
   pub weight-small : natAbs z ≤ 32768

@@ -4,13 +4,13 @@ use mathlib.Core.Path.{_≡_, ap, _∙_}
 use Prim.Native.Nat.{ℕ, _+_, _-_, _≤_}
 use native.Mathlib.Omega.{arith}
 use lib.ListN.{length, take, getD, set}
-use Rattle.netlist.specs.Circuits.{netlistOf}
-use Rattle.netlist.specs.Rows.{inputValues, gatesNext, lineValues}
-use Rattle.netlist.specs.Steps.{padded}
-use Rattle.netlist.proofs.Padding.{length-mapped}
-use Rattle.netlist.proofs.LineValues.{length-inputs, noGate, gateShown, gate-turn}
-use Rattle.netlist.proofs.evaluation.line_values.Statement.{statement}
-use Rattle.netlist.proofs.evaluation.line_values.Tie as tie
+use Rattle.netlist.specs.Circuits.{netlistOf, noGate}
+use Rattle.simulation.specs.Rows.{inputValues, gatesNext, lineValues}
+use Rattle.simulation.specs.Steps.{padded}
+use Rattle.simulation.proofs.Padding.{length-mapped}
+use Rattle.simulation.proofs.LineValues.{length-inputs, gateShown, gate-turn}
+use Rattle.simulation.proofs.line_values.Statement.{statement}
+use Rattle.simulation.proofs.line_values.Tie as tie
 
 abbrev Inv-loop : tie.InvT-loop
 Inv-loop f x c inputs count values₀ j₀ values j = (j ≤ count) × (length (c .gates) ≡ 48) × (values ≡ padded (gatesNext f (inputValues f x (c .head .inputs)) (take j (c .gates))))

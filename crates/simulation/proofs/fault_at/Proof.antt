@@ -1,9 +1,9 @@
 use borrow.Author.Needs.{needs}
 use mathlib.Core.Path.{sym, ap}
 use Rattle.netlist.specs.Circuits.{netlistOf, faultAt}
-use Rattle.netlist.proofs.LineValues.{fault-of}
-use Rattle.netlist.proofs.evaluation.fault_at.Statement.{statement}
-use Rattle.netlist.proofs.evaluation.fault_at.Tie as tie
+use Rattle.simulation.proofs.LineValues.{fault-of}
+use Rattle.simulation.proofs.fault_at.Statement.{statement}
+use Rattle.simulation.proofs.fault_at.Tie as tie
 
 returns : tie.Need-returns
 returns c = ap (faultAt (netlistOf (c .before .args .t1))) (sym (c .if1 .taken))

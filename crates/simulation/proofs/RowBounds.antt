@@ -11,9 +11,9 @@ use lib.ListN.{length, getD}
 use Rattle.integer.specs.Tab.{Within}
 use Rattle.integer.proofs.Bounds.{natAbs-sum}
 use Rattle.integer.proofs.Tabs.{length-tab, getD-tab}
-use Rattle.netlist.specs.Circuits.{Netlist}
-use Rattle.netlist.specs.Rows.{weighed, noOutput, outputTerm, lineValues, rowValue, rowsOf, reads}
+use Rattle.netlist.specs.Circuits.{Netlist, noOutput}
+use Rattle.simulation.specs.Rows.{weighed, outputTerm, lineValues, rowValue, rowsOf, reads}
 use Rattle.netlist.specs.declared.Fault.{Fault}
 
 pub weighed-le : (B : ℕ) (shows : Bool) (z : ℤ) → natAbs z ≤ B → natAbs (weighed shows z) ≤ B
 weighed-le B true z h = h

@@ -12,8 +12,8 @@ use borrow.Author.Tests.{ltb-false}
 use lib.Dec.{ltb}
 use lib.ListN.{length, set, replicate, length-append, length-replicate, length-map, List·getD-eq-default}
 use lib.Seq.{set-append-seam}
-use Rattle.netlist.specs.Rows.{reads}
-use Rattle.netlist.specs.Steps.{padded, slotOf}
+use Rattle.simulation.specs.Rows.{reads}
+use Rattle.simulation.specs.Steps.{padded, slotOf}
 
 pub length-mapped : (X Y : Type 0) (f : X → Y) (l : List X) (n : ℕ) → length (map f l) ≡ n → length l ≡ n
 length-mapped X Y f l n e = sym (length-map l f) ∙ e

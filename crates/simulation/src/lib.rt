@@ -1,16 +1,17 @@
-// The rows of a circuit, sound or under a fault.
-use crate::Circuit;
-use crate::Fault;
-use crate::Gate;
-use crate::Kind;
-use crate::Stuck;
+// Simulation of a circuit: the rows of its outputs, sound or under a fault. Where a circuit comes from and what is done with its rows is the
+// business of other crates.
+use netlist::Circuit;
+use netlist::Fault;
+use netlist::Gate;
+use netlist::Kind;
+use netlist::Stuck;
 ghost use mathlib.Core.Path.{_≡_};
 ghost use Prim.Native.Nat.{_≤_, _<_, _^_};
 ghost use lib.IntN.{natAbs};
 ghost use lib.ListN.{length};
 ghost use Rattle.netlist.specs.Circuits.{netlistOf, Sized, faultAt};
-ghost use Rattle.netlist.specs.Rows.{gateValue, stuckOr, shown, inputValues, lineValues, weighed, rowValue, rowsOf};
-ghost use Rattle.netlist.specs.Steps.{padded, slotOf};
+ghost use Rattle.simulation.specs.Rows.{gateValue, stuckOr, shown, inputValues, lineValues, weighed, rowValue, rowsOf};
+ghost use Rattle.simulation.specs.Steps.{padded, slotOf};
 
 fn gate_value(kind: Kind, a: bool, b: bool) -> bool
     ensures { λ r. ⌜ r ≡ gateValue kind a b ⌝ }

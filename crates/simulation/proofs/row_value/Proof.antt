@@ -10,11 +10,12 @@ use mir.Val.{ofZ}
 use mir.ValLaws.{toZ-ofZ}
 use Rattle.integer.specs.Sum.{sumTo}
 use Rattle.integer.proofs.Machine.{reads as read-back, add-fits, add-is}
-use Rattle.netlist.specs.Rows.{reads, weighed, noOutput}
-use Rattle.netlist.proofs.Padding.{length-mapped}
-use Rattle.netlist.proofs.RowValues.{readTerm, sum-room, sum-more, sum-small, row-of}
-use Rattle.netlist.proofs.evaluation.row_value.Statement.{statement}
-use Rattle.netlist.proofs.evaluation.row_value.Tie as tie
+use Rattle.netlist.specs.Circuits.{noOutput}
+use Rattle.simulation.specs.Rows.{reads, weighed}
+use Rattle.simulation.proofs.Padding.{length-mapped}
+use Rattle.simulation.proofs.RowValues.{readTerm, sum-room, sum-more, sum-small, row-of}
+use Rattle.simulation.proofs.row_value.Statement.{statement}
+use Rattle.simulation.proofs.row_value.Tie as tie
 
 abbrev Inv-loop : tie.InvT-loop
 Inv-loop x c values count sum₀ k₀ sum k = (k ≤ count) × (length (c .outputs) ≡ 4) × (sum ≡ ofZ w32 (sumTo k (readTerm values (c .outputs)))) × (natAbs (sumTo k (readTerm values (c .outputs))) ≤ k * 32768)

@@ -1,0 +1,4 @@
+pub mod LineValues
+pub mod Padding
+pub mod RowBounds
+pub mod RowValues
