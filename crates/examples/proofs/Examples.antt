@@ -1,5 +1,6 @@
 -- Document 01's examples follow from the definitions:
 --   examples-hold    every case of the table holds, each by computation
+use mathlib.Core.Bool.{xor}
 use mathlib.Core.Path.{refl}
 use lib.Count.{ones}
 use Rattle.integer.specs.First.{firstFrom, firstWhere}
@@ -9,10 +10,16 @@ use Rattle.walsh.specs.Answers.{inputsTo, inputsOf, outside, outsideAt, firstOu
 use Rattle.walsh.specs.Lists.{spectrumAnswer, unfit, unfitAt, firstUnfit, dividedAnswer, quotientAt, quotientsOf, rowsOf, rowsAnswer}
 use Rattle.walsh.specs.Spectrum.{termOf, signedSum, coefficientOf, spectrumOf}
 use Rattle.walsh.specs.Faults.{stuckOf, names, subsetSum, stuckAt, stuckSpectrumOf, rising, binary, fewOf, stuckRight, stuckAnswer, openedRight, linesAfter, openedSumAt, openedAt, openedSpectrumOf, undividedAt, firstUndivided, undividedAnswer, openedAnswer, replacedAll, stuckRow, stuckRows, openedRowNumber, openedRow, openedRows}
+use Rattle.text.specs.Text.{indexOf, before, after, fieldOf, fieldCount, sameBytes, digits, decimalFrom, wellFormed, numberOf}
+use Rattle.netlist.specs.Lines.{valueAt, numbersFrom, isLine, inRange, fits, refusalOf, isHead, headFits, headRefusal, headOf, isKind, kindOf, isGate, secondFits, gateFits, readsBelow, gateRefusal, gateOf, isOutput, outputFits, outputRefusal, outputOf, isFault, pairInRange, pairFits, faultFits, linesExist, risesAt, linesRise, faultRefusal, stuckAt as stuckField, faultOf}
+use Rattle.netlist.specs.Parsing.{linesOf, gatesIn, outputsIn, faultsIn, endOf, bodyOf, parseOf}
+use Rattle.simulation.specs.Rows.{gateValue, stuckOr, shown, inputValues, gateNext, gatesNext, lineValues, rowValue, rowsOf as circuitRows}
+use Rattle.planner.specs.CircuitCall.{roomAnswer, faultAnswer, circuitAnswer, faultSpectrum, circuitSpectrum}
 use Rattle.examples.specs.Functions.{isOneOf, figure, productOrInput, selected, gated, gatedOpened}
+use Rattle.examples.specs.Texts.{bytesOf, textOf, productOrInputText, gatedText, listing}
 use Rattle.examples.specs.Table.{Holds, Every, table}
 
 pub examples-hold : Every Holds table
-unfolding table figure productOrInput selected gated gatedOpened isOneOf tab sumTo firstFrom firstWhere ones termOf signedSum coefficientOf spectrumOf inputsTo inputsOf outside outsideAt firstOutside screenOf foundOf spectrumAnswer unfit unfitAt firstUnfit dividedAnswer quotientAt quotientsOf rowsOf rowsAnswer stuckOf names subsetSum stuckAt stuckSpectrumOf rising binary fewOf stuckRight stuckAnswer openedRight linesAfter openedSumAt openedAt openedSpectrumOf undividedAt firstUndivided undividedAnswer openedAnswer replacedAll stuckRow stuckRows openedRowNumber openedRow openedRows
+unfolding table figure productOrInput selected gated gatedOpened isOneOf tab sumTo firstFrom firstWhere ones termOf signedSum coefficientOf spectrumOf inputsTo inputsOf outside outsideAt firstOutside screenOf foundOf spectrumAnswer unfit unfitAt firstUnfit dividedAnswer quotientAt quotientsOf rowsOf rowsAnswer stuckOf names subsetSum stuckAt stuckSpectrumOf rising binary fewOf stuckRight stuckAnswer openedRight linesAfter openedSumAt openedAt openedSpectrumOf undividedAt firstUndivided undividedAnswer openedAnswer replacedAll stuckRow stuckRows openedRowNumber openedRow openedRows indexOf before after fieldOf fieldCount sameBytes digits decimalFrom wellFormed numberOf valueAt numbersFrom isLine inRange fits refusalOf isHead headFits headRefusal headOf isKind kindOf isGate secondFits gateFits readsBelow gateRefusal gateOf isOutput outputFits outputRefusal outputOf isFault pairInRange pairFits faultFits linesExist risesAt linesRise faultRefusal stuckField faultOf linesOf gatesIn outputsIn faultsIn endOf bodyOf parseOf gateValue stuckOr shown inputValues gateNext gatesNext lineValues rowValue circuitRows roomAnswer faultAnswer circuitAnswer faultSpectrum circuitSpectrum bytesOf textOf productOrInputText gatedText listing xor
 examples-hold =
-    ((refl, refl), (refl, ((refl, refl), ((refl, refl), ((refl, refl), ((refl, refl), ((refl, refl), (refl, ((refl, refl), ((refl, refl), ((refl, refl), ((refl, refl), (refl, (refl, ((refl, refl), ((refl, refl), tt))))))))))))))))
+    ((refl, refl), (refl, ((refl, refl), ((refl, refl), ((refl, refl), ((refl, refl), ((refl, refl), (refl, ((refl, refl), ((refl, refl), ((refl, refl), ((refl, refl), (refl, (refl, ((refl, refl), ((refl, refl), (refl, (refl, (refl, (refl, (refl, (refl, (refl, (refl, (refl, (refl, (refl, (refl, (refl, tt)))))))))))))))))))))))))))))

@@ -1,17 +1,19 @@
--- Document 01's examples marked •, those on lists, as one table. A case says what a call leaves for it, through the definitions that the
--- calls' promises cite; cases of circuits and reports join as further constructors.
+-- Document 01's examples marked •, those on lists and those that are values of a circuit's coefficients, as one table. A case says what a call
+-- leaves for it, through the definitions that the calls' promises cite; cases of plans and reports join as further constructors.
 use Prim.Native.Nat.{ℕ, _^_}
 use mathlib.Core.Path.{_≡_}
 use mathlib.Core.List.{List, [], _∷_}
 use lib.IntN.{ℤ, pos}
 use lib.ListN.{length, replicate}
 use Rattle.integer.specs.Tab.{nth}
+use Rattle.planner.specs.CircuitCall.{circuitAnswer, circuitSpectrum}
 use Rattle.walsh.specs.Answers.{minus, leaves, foundOf}
 use Rattle.walsh.specs.Lists.{spectrumAnswer, rowsAnswer, rowsOf}
 use Rattle.walsh.specs.Spectrum.{coefficientOf, spectrumOf}
 use Rattle.walsh.specs.Faults.{stuckOf, stuckAnswer, stuckSpectrumOf, stuckRows, keptInputs, openedAnswer, openedSpectrumOf, openedRows}
 use Rattle.walsh.specs.declared.Found.the-variants.{Coefficient}
 use Rattle.examples.specs.Functions.{figure, productOrInput, selected, gated, gatedOpened}
+use Rattle.examples.specs.Texts.{productOrInputText, gatedText, listing}
 
 pub data Case : Type 0 where
   -- rows and their whole spectrum
@@ -22,6 +24,10 @@ pub data Case : Type 0 where
   stuck : List ℤ → List ℕ → List ℕ → ℤ → Case
   -- rows, the values of the opened last lines, and the sum of the rows with the lines set
   opened : List ℤ → List ℕ → ℤ → Case
+  -- a circuit's text, the number of a fault and the whole spectrum under it
+  circuit : List ℕ → ℕ → List ℤ → Case
+  -- a circuit's text, the number of its rows, that of a fault and the sum of the rows under it
+  total : List ℕ → ℕ → ℕ → ℤ → Case
 
 -- a result that is lent, of n numbers
 abbrev pub lent : ℕ → List ℤ
@@ -40,12 +46,17 @@ stuckLeft c inputs values = leaves (stuckAnswer c inputs values (length c)) (stu
 abbrev pub openedLeft : List ℤ → List ℕ → List ℤ
 openedLeft c values = leaves (openedAnswer c values (2 ^ keptInputs c values)) (openedSpectrumOf c values) (lent (2 ^ keptInputs c values))
 
+abbrev pub circuitLeft : List ℕ → ℕ → ℕ → List ℤ
+circuitLeft text fault room = leaves (circuitAnswer text fault room) (circuitSpectrum text fault) (lent room)
+
 -- what a case says: of the call, and under a fault of the sum over the faulted rows too
 abbrev pub Holds : Case → Type 0
 Holds (whole rows coefficients) = (spectrumLeft rows ≡ coefficients) × (rowsLeft coefficients ≡ rows)
 Holds (one rows label z) = foundOf rows label ≡ Coefficient z
 Holds (stuck rows inputs values z) = (nth (stuckLeft (spectrumOf rows) inputs values) 0 ≡ z) × (coefficientOf (stuckRows (stuckOf inputs values) rows) 0 ≡ z)
 Holds (opened rows values z) = (nth (openedLeft (spectrumOf rows) values) 0 ≡ z) × (coefficientOf (openedRows (keptInputs rows values) values rows) 0 ≡ z)
+Holds (circuit text fault coefficients) = circuitLeft text fault (length coefficients) ≡ coefficients
+Holds (total text rows fault z) = nth (circuitLeft text fault rows) 0 ≡ z
 
 abbrev pub Every : (Case → Type 0) → List Case → Type 0
 Every P [] = Unit {0}
@@ -74,4 +85,19 @@ table =
     ∷ one gatedOpened 16 (minus 5)
     ∷ opened gatedOpened (0 ∷ []) (pos 6)
     ∷ opened gatedOpened (1 ∷ []) (pos 11)
+    -- the same functions as circuits: sound, and under each fault of the text
+    ∷ total productOrInputText 8 0 (pos 5)
+    ∷ total productOrInputText 8 1 (pos 4)
+    ∷ total productOrInputText 8 2 (pos 6)
+    ∷ total productOrInputText 8 3 (pos 2)
+    ∷ total productOrInputText 8 4 (pos 8)
+    ∷ total gatedText 16 0 (pos 8)
+    ∷ total gatedText 16 1 (pos 8)
+    ∷ total gatedText 16 2 (pos 8)
+    ∷ total gatedText 16 3 (pos 4)
+    ∷ total gatedText 16 4 (pos 12)
+    -- the listing, sound and with x2 stuck at 0 and at 1: x3 and x1 are left
+    ∷ circuit listing 0 (pos 4 ∷ minus 2 ∷ pos 0 ∷ pos 2 ∷ minus 2 ∷ pos 0 ∷ minus 2 ∷ pos 0 ∷ [])
+    ∷ circuit listing 1 (pos 4 ∷ pos 0 ∷ pos 0 ∷ pos 0 ∷ minus 4 ∷ pos 0 ∷ pos 0 ∷ pos 0 ∷ [])
+    ∷ circuit listing 2 (pos 4 ∷ minus 4 ∷ pos 0 ∷ pos 0 ∷ pos 0 ∷ pos 0 ∷ pos 0 ∷ pos 0 ∷ [])
     ∷ []

@@ -6,21 +6,19 @@ use mathlib.Core.Path.{_≡_, refl, sym, ap, _∙_, subst, subst⁻¹}
 use mathlib.Core.Bool.{Bool, true, false, cond, _&&_, _||_, true≢false, false≢true}
 use mathlib.Core.List.{List, [], _∷_, _++_}
 use mathlib.Core.Logic.{inl, inr}
-use Prim.Native.Nat.{ℕ, zero, suc, _+_, _-_, _<_, _≤_, zero-le}
-use native.Mathlib.Nat.{add-zero, zero-add, lt-of-not-le, le-antisymm}
+use Prim.Native.Nat.{ℕ, zero, suc, _+_, _-_, _<_, _≤_}
+use native.Mathlib.Nat.{add-zero, zero-add, lt-of-not-le}
 use native.Mathlib.Decide.{decLe}
 use native.Mathlib.Omega.{arith}
 use lib.Dec.{eqb, leb, ltb}
-use lib.IntN.{pos, natAbs}
 use lib.ListN.{length, getD, length-append, List·getD-append}
 use lib.Seq.{getD-append-seam}
-use borrow.Author.Tests.{ltb-true, ltb-false, leb-true, eqb-true, eqb-false, lt-leb}
-use Rattle.text.specs.Text.{before, after, lineEnd, indexOf, fieldOf, fieldCount, sameBytes, numberOf, wellFormed, digits, decimalFrom}
+use borrow.Author.Tests.{ltb-true, leb-true, eqb-true, lt-leb}
+use Rattle.text.specs.Text.{before, after, lineEnd, indexOf, fieldOf, fieldCount, numberOf, wellFormed}
 use Rattle.text.proofs.Decimals.{both}
 use Rattle.text.proofs.Parts.{no-field}
-use Rattle.text.proofs.Words.{same-equal}
 use Rattle.netlist.specs.Circuits.{Netlist, noGate, noOutput, sound}
-use Rattle.netlist.specs.Lines.{unless, valueOf, valueAt, isLine, fits, faultWord, isHead, headFits, headRefusal, headOf, isKind, kindOf, notWord, andWord, orWord, nandWord, norWord, xorWord, xnorWord, isGate, gateFits, readsBelow, gateRefusal, gateOf, isOutput, outputFits, outputRefusal, outputOf, isFault, pairFits, faultFits, linesExist, risesAt, linesRise, faultRefusal, stuckAt, faultOf}
+use Rattle.netlist.specs.Lines.{unless, refusalOf, inRange, valueAt, isLine, fits, faultWord, isHead, headFits, headRefusal, headOf, kindOf, secondFits, isGate, gateFits, readsBelow, gateRefusal, gateOf, isOutput, outputFits, outputRefusal, outputOf, isFault, pairInRange, pairFits, faultFits, linesExist, risesAt, linesRise, faultRefusal, stuckAt, faultOf}
 use Rattle.netlist.specs.Parsing.{Read, items, refused, lineRefusal, linesOf, nthGateRefusal, nthOutputRefusal, nthFaultRefusal, gatesIn, outputsIn, faultsIn, Parse, accepted, rejected, onRead, endOf, bodyOf, parseOf}
 use Rattle.netlist.specs.WellFormed.{SecondRight, GateRight, OutputRight, Above, FaultRight, WellFormed}
 use Rattle.netlist.specs.declared.Fault.{Fault}
@@ -32,28 +30,40 @@ use Rattle.netlist.specs.declared.Output.{Output}
 
 -- tests joined
 
--- the first test and those behind it pass, where none refuses
-pub passed : (t : Bool) (k next : ℕ) → unless t (suc k) next ≡ 0 → (t ≡ true) × (next ≡ 0)
-passed true k next e = (refl, e)
-passed false k next e = absurd (omega arith)
-
 second-holds : (a b : Bool) → a ≡ false → (a || b) ≡ true → b ≡ true
 second-holds true b f e = absurd (true≢false f)
 second-holds false b f e = e
 
-pub fits-range : (l : List ℕ) (k low high : ℕ) → fits l k low high ≡ true → (low ≤ valueAt l k) × (valueAt l k ≤ high)
-unfolding fits
-fits-range l k low high e = let b = both (leb low (valueAt l k)) (leb (valueAt l k) high) e in (leb-true low (valueAt l k) (b .0), leb-true (valueAt l k) high (b .1))
+-- all of a line's tests pass where none refuses
+pub record AllPass (formed fit below exist rise : Bool) : Type 0 where
+  pub formed-is : formed ≡ true
+  pub fit-is : fit ≡ true
+  pub below-is : below ≡ true
+  pub exist-is : exist ≡ true
+  pub rise-is : rise ≡ true
 
-pub absent : (l : List ℕ) (k : ℕ) → fieldCount l ≤ k → valueAt l k ≡ 0
+pub all-pass : (formed fit below exist rise : Bool) → refusalOf formed fit below exist rise ≡ 0 → AllPass formed fit below exist rise
+unfolding refusalOf
+all-pass true true true true true e = record { formed-is = refl; fit-is = refl; below-is = refl; exist-is = refl; rise-is = refl }
+all-pass false fit below exist rise e = absurd (omega arith)
+all-pass true false below exist rise e = absurd (omega arith)
+all-pass true true false exist rise e = absurd (omega arith)
+all-pass true true true false rise e = absurd (omega arith)
+all-pass true true true true false e = absurd (omega arith)
+
+pub range : (v low high : ℕ) → inRange v low high ≡ true → (low ≤ v) × (v ≤ high)
+unfolding inRange
+range v low high e = let b = both (leb low v) (leb v high) e in (leb-true low v (b .0), leb-true v high (b .1))
+
+fits-range : (l : List ℕ) (k low high : ℕ) → fits l k low high ≡ true → (low ≤ valueAt l k) × (valueAt l k ≤ high)
+unfolding fits
+fits-range l k low high e = range (valueAt l k) low high e
+
+absent : (l : List ℕ) (k : ℕ) → fieldCount l ≤ k → valueAt l k ≡ 0
 unfolding valueAt numberOf wellFormed
 absent l k h = rw (no-field l k h .0)
 
 -- one line
-
-pub head-right : (l : List ℕ) → headRefusal l ≡ 0 → headFits l ≡ true
-unfolding headRefusal
-head-right l e = passed (headFits l) 2 0 (passed (isHead l) 1 (unless (headFits l) 3 0) e .1) .0
 
 pub record HeadRight (h : Head) : Type 0 where
   pub inputs-low : 1 ≤ h .inputs
@@ -67,9 +77,9 @@ pub record HeadRight (h : Head) : Type 0 where
   pub cap-high : h .cap ≤ 4
 
 pub head-fits : (l : List ℕ) → headRefusal l ≡ 0 → HeadRight (headOf l)
-unfolding headFits headOf
+unfolding headRefusal headFits headOf
 head-fits l e =
-    let a = both (((fits l 1 1 8 && fits l 2 0 48) && fits l 3 1 4) && fits l 4 1 32) (fits l 5 1 4) (head-right l e) in
+    let a = both (((fits l 1 1 8 && fits l 2 0 48) && fits l 3 1 4) && fits l 4 1 32) (fits l 5 1 4) (all-pass (isHead l) (headFits l) true true true e .fit-is) in
     let b = both ((fits l 1 1 8 && fits l 2 0 48) && fits l 3 1 4) (fits l 4 1 32) (a .0) in
     let c = both (fits l 1 1 8 && fits l 2 0 48) (fits l 3 1 4) (b .0) in
     let d = both (fits l 1 1 8) (fits l 2 0 48) (c .0) in
@@ -79,39 +89,25 @@ head-fits l e =
     let k = fits-range l 5 1 4 (a .1) in
     record { inputs-low = n .0; inputs-high = n .1; gates-high = fits-range l 2 0 48 (d .1) .1; outputs-low = m .0; outputs-high = m .1; faults-low = q .0; faults-high = q .1; cap-low = k .0; cap-high = k .1 }
 
--- a kind that is not `not`
-other-kind : (b : ℕ) (t1 t2 t3 t4 t5 t6 t7 : Bool) → (t1 || t2 || t3 || t4 || t5 || t6 || t7) ≡ true → t7 ≡ false → 1 ≤ b
-    → SecondRight (cond t1 And (cond t2 Or (cond t3 Nand (cond t4 Nor (cond t5 Xor (cond t6 Xnor Not)))))) b
-other-kind b true t2 t3 t4 t5 t6 t7 k n h = h
-other-kind b false true t3 t4 t5 t6 t7 k n h = h
-other-kind b false false true t4 t5 t6 t7 k n h = h
-other-kind b false false false true t5 t6 t7 k n h = h
-other-kind b false false false false true t6 t7 k n h = h
-other-kind b false false false false false true t7 k n h = h
-other-kind b false false false false false false t7 k n h = absurd (true≢false (sym k ∙ n))
-
-second-right : (l : List ℕ) → isKind (fieldOf l 1) ≡ true → cond (sameBytes (fieldOf l 1) notWord) (fits l 3 0 0) (fits l 3 1 56) ≡ true → SecondRight (kindOf (fieldOf l 1)) (valueAt l 3)
-unfolding isKind kindOf sameBytes
-second-right l k e = go (sameBytes w notWord) refl e
-  where
-    w : List ℕ
-    w = fieldOf l 1
-
-    go : (t : Bool) → sameBytes w notWord ≡ t → cond t (fits l 3 0 0) (fits l 3 1 56) ≡ true → SecondRight (kindOf w) (valueAt l 3)
-    go true s f = subst⁻¹ (λ v. SecondRight (kindOf v) (valueAt l 3)) (same-equal w notWord s) (le-antisymm (fits-range l 3 0 0 f .1) zero-le)
-    go false s f = other-kind (valueAt l 3) (sameBytes w andWord) (sameBytes w orWord) (sameBytes w nandWord) (sameBytes w norWord) (sameBytes w xorWord) (sameBytes w xnorWord) (sameBytes w notWord) k s (fits-range l 3 1 56 f .0)
+second-right : (k : Kind) (b : ℕ) → secondFits k b ≡ true → SecondRight k b
+unfolding secondFits
+second-right And b e = range b 1 56 e .0
+second-right Or b e = range b 1 56 e .0
+second-right Nand b e = range b 1 56 e .0
+second-right Nor b e = range b 1 56 e .0
+second-right Xor b e = range b 1 56 e .0
+second-right Xnor b e = range b 1 56 e .0
+second-right Not b e = eqb-true b 0 e
 
 pub gate-right : (own : ℕ) (l : List ℕ) → gateRefusal own l ≡ 0 → GateRight own (gateOf l)
-unfolding gateRefusal isGate gateFits readsBelow gateOf
+unfolding gateRefusal gateFits readsBelow gateOf
 gate-right own l e =
-    let a = passed (isGate l) 1 (unless (gateFits l) 3 (unless (readsBelow own l) 4 0)) e in
-    let b = passed (gateFits l) 2 (unless (readsBelow own l) 4 0) (a .1) in
-    let c = passed (readsBelow own l) 3 0 (b .1) in
-    let f = both (fits l 2 1 56) (cond (sameBytes (fieldOf l 1) notWord) (fits l 3 0 0) (fits l 3 1 56)) (b .0) in
-    let r = both (ltb (valueAt l 2) own) (ltb (valueAt l 3) own) (c .0) in
+    let p = all-pass (isGate l) (gateFits l) (readsBelow own l) true true e in
+    let f = both (fits l 2 1 56) (secondFits (kindOf (fieldOf l 1)) (valueAt l 3)) (p .fit-is) in
+    let r = both (ltb (valueAt l 2) own) (ltb (valueAt l 3) own) (p .below-is) in
     record {
       first = fits-range l 2 1 56 (f .0) .0;
-      second = second-right l (both (isLine l _ 2 4) (isKind (fieldOf l 1)) (a .0) .1) (f .1);
+      second = second-right (kindOf (fieldOf l 1)) (valueAt l 3) (f .1);
       first-below = ltb-true (valueAt l 2) own (r .0);
       second-below = ltb-true (valueAt l 3) own (r .1);
     }
@@ -119,37 +115,33 @@ gate-right own l e =
 pub output-right : (top : ℕ) (l : List ℕ) → outputRefusal top l ≡ 0 → OutputRight top (outputOf l)
 unfolding outputRefusal outputFits outputOf
 output-right top l e =
-    let a = passed (isOutput l) 1 (unless (outputFits l) 3 (unless (leb (valueAt l 1) top) 5 0)) e in
-    let b = passed (outputFits l) 2 (unless (leb (valueAt l 1) top) 5 0) (a .1) in
-    let c = passed (leb (valueAt l 1) top) 4 0 (b .1) in
-    let f = both (fits l 1 1 56) (fits l 2 1 15) (b .0) in
+    let p = all-pass (isOutput l) (outputFits l) true (leb (valueAt l 1) top) true e in
+    let f = both (fits l 1 1 56) (fits l 2 1 15) (p .fit-is) in
     let w = fits-range l 2 1 15 (f .1) in
-    record { line-low = fits-range l 1 1 56 (f .0) .0; line-high = leb-true (valueAt l 1) top (c .0); weight-low = w .0; weight-high = w .1; weight-whole = refl }
+    record { line-low = fits-range l 1 1 56 (f .0) .0; line-high = leb-true (valueAt l 1) top (p .exist-is); weight-low = w .0; weight-high = w .1; weight-whole = refl }
 
--- a line of faults has at least two fields
-counted : (l word : List ℕ) (fields : ℕ) → isLine l word 1 fields ≡ true → fieldCount l ≡ fields
-unfolding isLine
-counted l word fields e = eqb-true (fieldCount l) fields (both (eqb (fieldCount l) fields) (sameBytes (fieldOf l 0) word) (both (eqb (fieldCount l) fields && sameBytes (fieldOf l 0) word) _ e .0) .0)
-
+-- a line of faults has a pair
 some-pair : (l : List ℕ) → isFault l ≡ true → 1 < fieldCount l
 unfolding isFault
-some-pair l e = go (isLine l faultWord 1 3) refl (isLine l faultWord 1 5) refl (isLine l faultWord 1 7) refl e
+some-pair l e = go (eqb (fieldCount l) 3) refl (eqb (fieldCount l) 5) refl (eqb (fieldCount l) 7) refl (both (eqb (fieldCount l) 3 || eqb (fieldCount l) 5 || eqb (fieldCount l) 7) (isLine l faultWord 1 (fieldCount l)) e .0)
   where
-    go : (s : Bool) → isLine l faultWord 1 3 ≡ s → (t : Bool) → isLine l faultWord 1 5 ≡ t → (u : Bool) → isLine l faultWord 1 7 ≡ u → (s || t || u) ≡ true → 1 < fieldCount l
-    go true a t b u c h = omega (arith, counted l faultWord 3 a)
-    go false a true b u c h = omega (arith, counted l faultWord 5 b)
-    go false a false b true c h = omega (arith, counted l faultWord 7 c)
+    go : (s : Bool) → eqb (fieldCount l) 3 ≡ s → (t : Bool) → eqb (fieldCount l) 5 ≡ t → (u : Bool) → eqb (fieldCount l) 7 ≡ u → (s || t || u) ≡ true → 1 < fieldCount l
+    go true a t b u c h = omega (arith, eqb-true (fieldCount l) 3 a)
+    go false a true b u c h = omega (arith, eqb-true (fieldCount l) 5 b)
+    go false a false b true c h = omega (arith, eqb-true (fieldCount l) 7 c)
     go false a false b false c h = absurd (false≢true h)
 
 -- the pair at field k, which is there
 module _ (l : List ℕ) (k : ℕ) (there : k < fieldCount l) where
   there-fits : pairFits l k ≡ true → 1 ≤ valueAt l k
-  unfolding pairFits
-  there-fits e = fits-range l k 1 56 (both (fits l k 1 56) (fits l (suc k) 0 1) (second-holds (leb (fieldCount l) k) _ (lt-leb (fieldCount l) k there) e) .0) .0
+  unfolding pairFits pairInRange
+  there-fits e =
+      let f = second-holds (leb (fieldCount l) k) (inRange (valueAt l k) 1 56 && inRange (valueAt l (suc k)) 0 1) (lt-leb (fieldCount l) k there) e in
+      range (valueAt l k) 1 56 (both (inRange (valueAt l k) 1 56) (inRange (valueAt l (suc k)) 0 1) f .0) .0
 
   there-rises : risesAt l k ≡ true → valueAt l (k - 2) < valueAt l k
   unfolding risesAt
-  there-rises e = ltb-true (valueAt l (k - 2)) (valueAt l k) (second-holds (leb (fieldCount l) k) _ (lt-leb (fieldCount l) k there) e)
+  there-rises e = ltb-true (valueAt l (k - 2)) (valueAt l k) (second-holds (leb (fieldCount l) k) (ltb (valueAt l (k - 2)) (valueAt l k)) (lt-leb (fieldCount l) k there) e)
 
 above : (l : List ℕ) (k top : ℕ) → risesAt l k ≡ true → valueAt l k ≤ top → Above (valueAt l (k - 2)) top (stuckAt l k)
 unfolding stuckAt
@@ -162,16 +154,13 @@ above l k top e h = go (decLe (fieldCount l) k)
 pub fault-right : (top : ℕ) (l : List ℕ) → faultRefusal top l ≡ 0 → FaultRight top (faultOf l)
 unfolding faultRefusal faultFits linesExist linesRise faultOf stuckAt
 fault-right top l e =
-    let a = passed (isFault l) 1 (unless (faultFits l) 3 (unless (linesExist top l) 5 (unless (linesRise l) 6 0))) e in
-    let b = passed (faultFits l) 2 (unless (linesExist top l) 5 (unless (linesRise l) 6 0)) (a .1) in
-    let c = passed (linesExist top l) 4 (unless (linesRise l) 6 0) (b .1) in
-    let d = passed (linesRise l) 5 0 (c .1) in
-    let f = both (pairFits l 1 && pairFits l 3) (pairFits l 5) (b .0) in
-    let x = both (leb (valueAt l 1) top && leb (valueAt l 3) top) (leb (valueAt l 5) top) (c .0) in
+    let p = all-pass (isFault l) (faultFits l) true (linesExist top l) (linesRise l) e in
+    let f = both (pairFits l 1 && pairFits l 3) (pairFits l 5) (p .fit-is) in
+    let x = both (leb (valueAt l 1) top && leb (valueAt l 3) top) (leb (valueAt l 5) top) (p .exist-is) in
     let y = both (leb (valueAt l 1) top) (leb (valueAt l 3) top) (x .0) in
-    let r = both (risesAt l 3) (risesAt l 5) (d .0) in
+    let r = both (risesAt l 3) (risesAt l 5) (p .rise-is) in
     record {
-      first-low = there-fits l 1 (some-pair l (a .0)) (both (pairFits l 1) (pairFits l 3) (f .0) .0);
+      first-low = there-fits l 1 (some-pair l (p .formed-is)) (both (pairFits l 1) (pairFits l 3) (f .0) .0);
       first-high = leb-true (valueAt l 1) top (y .0);
       second = above l 3 top (r .0) (leb-true (valueAt l 3) top (y .1));
       third = above l 5 top (r .1) (leb-true (valueAt l 5) top (x .1));

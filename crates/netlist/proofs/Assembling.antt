@@ -3,14 +3,13 @@
 --   bytes-left, all-read                     what is left behind the last line refuses it, else it is accepted
 --   head-stop, head-passed                   the same for the text's length and first line
 --   meant                                    the parser's answer to a text that is refused
-use mathlib.Core.Path.{_≡_, refl, sym, ap, _∙_}
+use mathlib.Core.Path.{_≡_, sym, ap, _∙_}
 use mathlib.Core.List.{List, []}
 use Prim.Native.Nat.{ℕ, _+_, _-_, _<_, _≤_}
-use native.Mathlib.Nat.{sub-zero}
 use native.Mathlib.Omega.{arith}
 use lib.ListN.{length, take, drop, length-drop}
 use borrow.Author.Tests.{lt-ltb, le-ltb, eq-eqb, ne-eqb}
-use Rattle.text.specs.Text.{indexOf, before, after, has, lineEnd}
+use Rattle.text.specs.Text.{indexOf, before, lineEnd}
 use Rattle.text.proofs.Parts.{cut-before, cut-after, cut-has, cut-none}
 use Rattle.netlist.specs.Circuits.{netlistOf}
 use Rattle.netlist.specs.Lines.{headRefusal, headOf, gateOf, outputOf, faultOf}

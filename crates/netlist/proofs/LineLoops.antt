@@ -4,19 +4,16 @@
 --   missing, declined, finished  what the loop answers at its three ends
 --   read-refused, read-done      such an answer by its number
 use mathlib.Core.Path.{_≡_, refl, sym, ap, ap₂, _∙_}
-use mathlib.Core.Bool.{Bool, true, false, cond}
 use mathlib.Core.List.{List, [], _∷_, _++_}
-use Prim.Native.Nat.{ℕ, zero, suc, _+_, _-_, _<_, _≤_, zero-le}
+use Prim.Native.Nat.{ℕ, suc, _+_, _-_, _<_, _≤_, zero-le}
 use native.Mathlib.Nat.{sub-zero, add-zero}
 use native.Mathlib.Numerals.{add-one}
 use native.Mathlib.Omega.{arith}
-use lib.Dec.{eqb}
 use lib.ListN.{length, take, drop, set, length-set}
 use lib.Seq.{take-suc-set, length-take-le}
 use borrow.Author.Tests.{eq-eqb, ne-eqb}
-use Rattle.text.specs.Text.{indexOf, before, after, has, lineEnd}
+use Rattle.text.specs.Text.{indexOf, before, after, lineEnd}
 use Rattle.text.proofs.Parts.{cut-before, cut-after, cut-has, cut-none}
-use Rattle.netlist.specs.Lines.{unless}
 use Rattle.netlist.specs.Parsing.{Read, items, refused, lineRefusal, linesOf}
 use Rattle.netlist.specs.Steps.{readOf}
 

@@ -1,9 +1,10 @@
 -- What the code that reads one line shows:
---   passes, fails, both                       what a test `if !r` shows of the test that r is
+--   passes, fails                             what a test `if !r` shows of the test that r is
+--   second-read                               how a gate's second line is tested where the gate reads it
 --   value-good, value-bad                     the number in a field, which is at most 9999, and 0 where there is none
 --   numbers-bad, numbers-step, numbers-end    what one turn of the loop over the fields from k to before `to` shows
-use mathlib.Core.Path.{_≡_, sym, ap₂, _∙_}
-use mathlib.Core.Bool.{Bool, true, false, not, _&&_}
+use mathlib.Core.Path.{_≡_, refl, sym, _∙_}
+use mathlib.Core.Bool.{Bool, true, false, not}
 use mathlib.Core.List.{List}
 use Prim.Native.Nat.{ℕ, suc, _+_, _-_, _<_, _≤_}
 use native.Mathlib.Numerals.{add-one}
@@ -13,7 +14,9 @@ use borrow.Author.Tests.{not-true, not-false}
 use Rattle.text.specs.Text.{fieldOf, numberOf}
 use Rattle.text.specs.declared.Number.the-variants.{Value, Bad}
 use Rattle.text.proofs.Decimals.{number-le}
-use Rattle.netlist.specs.Lines.{isNumber, valueAt, numbersFrom}
+use Rattle.netlist.specs.declared.Kind.{Kind}
+use Rattle.netlist.specs.declared.Kind.the-variants.{And, Or, Nand, Nor, Xor, Xnor, Not}
+use Rattle.netlist.specs.Lines.{isNumber, valueAt, numbersFrom, inRange, secondFits}
 
 pub passes : {r t : Bool} → r ≡ t → not r ≡ false → t ≡ true
 passes {r} e n = sym e ∙ not-false r n
@@ -21,8 +24,16 @@ passes {r} e n = sym e ∙ not-false r n
 pub fails : {r t : Bool} → r ≡ t → not r ≡ true → t ≡ false
 fails {r} e n = sym e ∙ not-true r n
 
-pub both : {r s t u : Bool} → r ≡ t → s ≡ u → (r && s) ≡ (t && u)
-both e f = ap₂ (λ (x y : Bool). x && y) e f
+-- the arm for every kind but `not`
+pub second-read : (kind : Kind) (b : ℕ) → (kind ≡ Not → ⊥) → inRange b 1 56 ≡ secondFits kind b
+unfolding secondFits
+second-read And b h = refl
+second-read Or b h = refl
+second-read Nand b h = refl
+second-read Nor b h = refl
+second-read Xor b h = refl
+second-read Xnor b h = refl
+second-read Not b h = absurd (h refl)
 
 module _ (l : List ℕ) (k : ℕ) where
   pub value-good : (v : ℕ) → numberOf (fieldOf l k) ≡ Value v → (v ≡ valueAt l k) × (v ≤ 9999)

@@ -1,7 +1,7 @@
 -- What each line of the circuit text says, and the number by which a line is refused (document 01, "The circuit text", "What is returned"):
 --   "within a line 2, 3, then 4, 5, 6"
 -- A field that is no number, or is not there, counts as 0 where its value is asked; a line with a bad number is refused before that matters.
-use Prim.Native.Nat.{ℕ, zero, suc, _+_, _-_}
+use Prim.Native.Nat.{ℕ, zero, suc, _-_}
 use mathlib.Core.Bool.{Bool, true, false, cond, _&&_, _||_}
 use mathlib.Core.List.{List, [], _∷_}
 use lib.Dec.{eqb, leb, ltb}
@@ -71,14 +71,21 @@ numbersFrom l k (suc count) = isNumber (numberOf (fieldOf l k)) && numbersFrom l
 unfoldable pub isLine : List ℕ → List ℕ → ℕ → ℕ → Bool
 isLine l word from fields = (eqb (fieldCount l) fields && sameBytes (fieldOf l 0) word) && numbersFrom l from (fields - from)
 
+unfoldable pub inRange : ℕ → ℕ → ℕ → Bool
+inRange v low high = leb low v && leb v high
+
 -- field k is a number from low to high
 unfoldable pub fits : List ℕ → ℕ → ℕ → ℕ → Bool
-fits l k low high = leb low (valueAt l k) && leb (valueAt l k) high
+fits l k low high = inRange (valueAt l k) low high
 
--- the number of the first test that fails, in the order in which they stand; 0 where all pass
+-- the number of a test that fails, else what comes next
 abbrev pub unless : Bool → ℕ → ℕ → ℕ
 unless true number next = next
 unless false number next = number
+
+-- "within a line 2, 3, then 4, 5, 6"; 0 where all tests pass
+unfoldable pub refusalOf : Bool → Bool → Bool → Bool → Bool → ℕ
+refusalOf formed fit below exist rise = unless formed 2 (unless fit 3 (unless below 4 (unless exist 5 (unless rise 6 0))))
 
 -- "`circuit,N,G,M,Q,K`: N inputs (1 to 8), G gates (0 to 48), M outputs (1 to 4), Q faults (1 to 32), cap K (1 to 4)"
 unfoldable pub isHead : List ℕ → Bool
@@ -88,7 +95,7 @@ unfoldable pub headFits : List ℕ → Bool
 headFits l = (((fits l 1 1 8 && fits l 2 0 48) && fits l 3 1 4) && fits l 4 1 32) && fits l 5 1 4
 
 unfoldable pub headRefusal : List ℕ → ℕ
-headRefusal l = unless (isHead l) 2 (unless (headFits l) 3 0)
+headRefusal l = refusalOf (isHead l) (headFits l) true true true
 
 unfoldable pub headOf : List ℕ → Head
 headOf l = record { inputs = valueAt l 1; gates = valueAt l 2; outputs = valueAt l 3; faults = valueAt l 4; cap = valueAt l 5 }
@@ -111,15 +118,24 @@ unfoldable pub isGate : List ℕ → Bool
 isGate l = isLine l gateWord 2 4 && isKind (fieldOf l 1)
 
 -- "A is 1 to 56; B is 1 to 56, and 0 for `not`"
+unfoldable pub secondFits : Kind → ℕ → Bool
+secondFits And b = inRange b 1 56
+secondFits Or b = inRange b 1 56
+secondFits Nand b = inRange b 1 56
+secondFits Nor b = inRange b 1 56
+secondFits Xor b = inRange b 1 56
+secondFits Xnor b = inRange b 1 56
+secondFits Not b = eqb b 0
+
 unfoldable pub gateFits : List ℕ → Bool
-gateFits l = fits l 2 1 56 && cond (sameBytes (fieldOf l 1) notWord) (fits l 3 0 0) (fits l 3 1 56)
+gateFits l = fits l 2 1 56 && secondFits (kindOf (fieldOf l 1)) (valueAt l 3)
 
 -- "Each of A and B is below the gate's own line."
 unfoldable pub readsBelow : ℕ → List ℕ → Bool
 readsBelow own l = ltb (valueAt l 2) own && ltb (valueAt l 3) own
 
 unfoldable pub gateRefusal : ℕ → List ℕ → ℕ
-gateRefusal own l = unless (isGate l) 2 (unless (gateFits l) 3 (unless (readsBelow own l) 4 0))
+gateRefusal own l = refusalOf (isGate l) (gateFits l) (readsBelow own l) true true
 
 unfoldable pub gateOf : List ℕ → Gate
 gateOf l = record { kind = kindOf (fieldOf l 1); a = valueAt l 2; b = valueAt l 3 }
@@ -133,18 +149,21 @@ outputFits l = fits l 1 1 56 && fits l 2 1 15
 
 -- 5: "output or fault names a line above N+G", which is `top`
 unfoldable pub outputRefusal : ℕ → List ℕ → ℕ
-outputRefusal top l = unless (isOutput l) 2 (unless (outputFits l) 3 (unless (leb (valueAt l 1) top) 5 0))
+outputRefusal top l = refusalOf (isOutput l) (outputFits l) true (leb (valueAt l 1) top) true
 
 unfoldable pub outputOf : List ℕ → Output
 outputOf l = record { line = valueAt l 1; weight = pos (valueAt l 2) }
 
 -- "`fault,LINE,VALUE`, with one to three LINE,VALUE pairs"
 unfoldable pub isFault : List ℕ → Bool
-isFault l = isLine l faultWord 1 3 || isLine l faultWord 1 5 || isLine l faultWord 1 7
+isFault l = (eqb (fieldCount l) 3 || eqb (fieldCount l) 5 || eqb (fieldCount l) 7) && isLine l faultWord 1 (fieldCount l)
 
 -- "LINE 1 to 56 and rising, VALUE 0 or 1": the pair at field k, where the line has one
+unfoldable pub pairInRange : Bool → ℕ → ℕ → Bool
+pairInRange absent line value = absent || (inRange line 1 56 && inRange value 0 1)
+
 unfoldable pub pairFits : List ℕ → ℕ → Bool
-pairFits l k = leb (fieldCount l) k || (fits l k 1 56 && fits l (suc k) 0 1)
+pairFits l k = pairInRange (leb (fieldCount l) k) (valueAt l k) (valueAt l (suc k))
 
 unfoldable pub faultFits : List ℕ → Bool
 faultFits l = (pairFits l 1 && pairFits l 3) && pairFits l 5
@@ -160,7 +179,7 @@ unfoldable pub linesRise : List ℕ → Bool
 linesRise l = risesAt l 3 && risesAt l 5
 
 unfoldable pub faultRefusal : ℕ → List ℕ → ℕ
-faultRefusal top l = unless (isFault l) 2 (unless (faultFits l) 3 (unless (linesExist top l) 5 (unless (linesRise l) 6 0)))
+faultRefusal top l = refusalOf (isFault l) (faultFits l) true (linesExist top l) (linesRise l)
 
 -- a pair that is not there names line 0
 unfoldable pub stuckAt : List ℕ → ℕ → Stuck

@@ -4,7 +4,7 @@ use Prim.Native.Nat.{ℕ, zero, suc, _+_}
 use mathlib.Core.Bool.{cond}
 use mathlib.Core.List.{List, [], _∷_, _++_}
 use lib.Dec.{eqb, ltb}
-use lib.ListN.{length, take, drop}
+use lib.ListN.{length}
 use Rattle.text.specs.Text.{before, after, has, lineEnd}
 use Rattle.netlist.specs.Circuits.{Netlist, netlistOf}
 use Rattle.netlist.specs.Lines.{unless, headRefusal, headOf, gateRefusal, gateOf, outputRefusal, outputOf, faultRefusal, faultOf}

@@ -1,4 +1,7 @@
-// What one line of the circuit text says, and the number by which it is refused, or 0.
+// What one line of the circuit text says, with the number by which it is refused, or 0.
+//
+// The numbers of a line are read once and all its tests made on them, and the first test that fails gives the number: which of them are made
+// changes nothing, since what a line says counts only where all pass.
 use crate::Fault;
 use crate::Gate;
 use crate::Head;
@@ -7,9 +10,35 @@ use crate::Output;
 use crate::Stuck;
 use text::Number;
 ghost use mathlib.Core.Path.{_≡_};
-ghost use Prim.Native.Nat.{_-_, _≤_, _<_};
-ghost use Rattle.netlist.specs.Lines.{isNumber, valueAt, numbersFrom, isLine, fits, isHead, headFits, headRefusal, headOf, isKind, kindOf, isGate, gateFits, readsBelow, gateRefusal, gateOf, isOutput, outputFits, outputRefusal, outputOf, isFault, pairFits, faultFits, linesExist, risesAt, linesRise, faultRefusal, stuckAt, faultOf};
+ghost use Prim.Native.Nat.{suc, _-_, _≤_};
+ghost use Rattle.netlist.specs.Lines.{isNumber, valueAt, numbersFrom, isLine, inRange, refusalOf, headRefusal, headOf, isKind, kindOf, secondFits, gateRefusal, gateOf, outputRefusal, outputOf, isFault, pairInRange, faultRefusal, faultOf};
 ghost use Rattle.text.specs.Text.{numberOf};
+
+pub(crate) struct HeadLine {
+    pub number: u32,
+    pub head: Head,
+}
+
+pub(crate) struct GateLine {
+    pub number: u32,
+    pub gate: Gate,
+}
+
+pub(crate) struct OutputLine {
+    pub number: u32,
+    pub output: Output,
+}
+
+pub(crate) struct FaultLine {
+    pub number: u32,
+    pub fault: Fault,
+}
+
+// LINE,VALUE
+struct Pair {
+    line: u16,
+    value: u16,
+}
 
 fn is_number(s: &[u8]) -> bool
     ensures { λ r. ⌜ r ≡ isNumber (numberOf (now (s .entry))) ⌝ }
@@ -47,48 +76,63 @@ fn numbers(line: &[u8], from: usize, to: usize) -> bool
 fn is_line(line: &[u8], word: &[u8], from: usize, fields: usize) -> bool
     ensures { λ r. ⌜ r ≡ isLine (now (line .entry)) (now (word .entry)) from fields ⌝ }
 {
-    let counted = text::fields(line) == fields;
-    counted & text::same(text::field(line, 0), word) & numbers(line, from, fields)
+    if text::fields(line) != fields {
+        return false;
+    }
+    text::same(text::field(line, 0), word) & numbers(line, from, fields)
 }
 
-fn in_range(line: &[u8], k: usize, low: u16, high: u16) -> bool
-    ensures { λ r. ⌜ r ≡ fits (now (line .entry)) k low high ⌝ }
+fn in_range(v: u16, low: u16, high: u16) -> bool
+    ensures { λ r. ⌜ r ≡ inRange v low high ⌝ }
 {
-    let v = value_at(line, k);
     (low <= v) & (v <= high)
 }
 
-fn head_in_range(line: &[u8]) -> bool
-    ensures { λ r. ⌜ r ≡ headFits (now (line .entry)) ⌝ }
+// The number of the first test that fails.
+fn refusal(formed: bool, fit: bool, below: bool, exist: bool, rise: bool) -> u32
+    ensures { λ r. ⌜ r ≡ refusalOf formed fit below exist rise ⌝ }
 {
-    in_range(line, 1, 1, 8)
-        & in_range(line, 2, 0, 48)
-        & in_range(line, 3, 1, 4)
-        & in_range(line, 4, 1, 32)
-        & in_range(line, 5, 1, 4)
-}
-
-pub(crate) fn head_refusal(line: &[u8]) -> u32
-    ensures { λ r. ⌜ r ≡ headRefusal (now (line .entry)) ⌝ }
-{
-    if !is_line(line, b"circuit", 1, 6) {
+    if !formed {
         return 2;
     }
-    if !head_in_range(line) {
+    if !fit {
         return 3;
+    }
+    if !below {
+        return 4;
+    }
+    if !exist {
+        return 5;
+    }
+    if !rise {
+        return 6;
     }
     0
 }
 
-pub(crate) fn head_of(line: &[u8]) -> Head
-    ensures { λ r. ⌜ r ≡ headOf (now (line .entry)) ⌝ }
+pub(crate) fn head_line(line: &[u8]) -> HeadLine
+    ensures { λ r. ⌜ (r .number ≡ headRefusal (now (line .entry))) × (r .head ≡ headOf (now (line .entry))) ⌝ }
 {
-    Head {
-        inputs: value_at(line, 1) as usize,
-        gates: value_at(line, 2) as usize,
-        outputs: value_at(line, 3) as usize,
-        faults: value_at(line, 4) as usize,
-        cap: value_at(line, 5) as usize,
+    let n = value_at(line, 1);
+    let g = value_at(line, 2);
+    let m = value_at(line, 3);
+    let q = value_at(line, 4);
+    let k = value_at(line, 5);
+    let formed = is_line(line, b"circuit", 1, 6);
+    let fit = in_range(n, 1, 8)
+        & in_range(g, 0, 48)
+        & in_range(m, 1, 4)
+        & in_range(q, 1, 32)
+        & in_range(k, 1, 4);
+    HeadLine {
+        number: refusal(formed, fit, true, true, true),
+        head: Head {
+            inputs: n as usize,
+            gates: g as usize,
+            outputs: m as usize,
+            faults: q as usize,
+            cap: k as usize,
+        },
     }
 }
 
@@ -128,149 +172,105 @@ fn kind_of(word: &[u8]) -> Kind
     Kind::Not
 }
 
-fn gate_in_range(line: &[u8]) -> bool
-    ensures { λ r. ⌜ r ≡ gateFits (now (line .entry)) ⌝ }
+fn second_in_range(kind: Kind, b: u16) -> bool
+    ensures { λ r. ⌜ r ≡ secondFits kind b ⌝ }
 {
-    let a = in_range(line, 2, 1, 56);
-    if text::same(text::field(line, 1), b"not") {
-        return a & in_range(line, 3, 0, 0);
+    match kind {
+        Kind::Not => b == 0,
+        _ => in_range(b, 1, 56),
     }
-    a & in_range(line, 3, 1, 56)
-}
-
-fn reads_below(own: usize, line: &[u8]) -> bool
-    ensures { λ r. ⌜ r ≡ readsBelow own (now (line .entry)) ⌝ }
-{
-    let a = value_at(line, 2) as usize;
-    let b = value_at(line, 3) as usize;
-    (a < own) & (b < own)
 }
 
 // The line of the gate that drives line `own`.
-pub(crate) fn gate_refusal(own: usize, line: &[u8]) -> u32
-    ensures { λ r. ⌜ r ≡ gateRefusal own (now (line .entry)) ⌝ }
+pub(crate) fn gate_line(own: usize, line: &[u8]) -> GateLine
+    ensures { λ r. ⌜ (r .number ≡ gateRefusal own (now (line .entry))) × (r .gate ≡ gateOf (now (line .entry))) ⌝ }
 {
-    if !(is_line(line, b"gate", 2, 4) & is_kind(text::field(line, 1))) {
-        return 2;
-    }
-    if !gate_in_range(line) {
-        return 3;
-    }
-    if !reads_below(own, line) {
-        return 4;
-    }
-    0
-}
-
-pub(crate) fn gate_of(line: &[u8]) -> Gate
-    ensures { λ r. ⌜ r ≡ gateOf (now (line .entry)) ⌝ }
-{
-    Gate {
-        kind: kind_of(text::field(line, 1)),
-        a: value_at(line, 2),
-        b: value_at(line, 3),
+    let kind = kind_of(text::field(line, 1));
+    let a = value_at(line, 2);
+    let b = value_at(line, 3);
+    let formed = is_line(line, b"gate", 2, 4) & is_kind(text::field(line, 1));
+    let fit = in_range(a, 1, 56) & second_in_range(kind, b);
+    let below = ((a as usize) < own) & ((b as usize) < own);
+    GateLine {
+        number: refusal(formed, fit, below, true, true),
+        gate: Gate { kind, a, b },
     }
 }
 
 // `top` is the circuit's last line.
-pub(crate) fn output_refusal(top: usize, line: &[u8]) -> u32
-    ensures { λ r. ⌜ r ≡ outputRefusal top (now (line .entry)) ⌝ }
+pub(crate) fn output_line(top: usize, line: &[u8]) -> OutputLine
+    ensures { λ r. ⌜ (r .number ≡ outputRefusal top (now (line .entry))) × (r .output ≡ outputOf (now (line .entry))) ⌝ }
 {
-    if !is_line(line, b"output", 1, 3) {
-        return 2;
-    }
-    if !(in_range(line, 1, 1, 56) & in_range(line, 2, 1, 15)) {
-        return 3;
-    }
-    if top < value_at(line, 1) as usize {
-        return 5;
-    }
-    0
-}
-
-pub(crate) fn output_of(line: &[u8]) -> Output
-    ensures { λ r. ⌜ r ≡ outputOf (now (line .entry)) ⌝ }
-{
-    Output {
-        line: value_at(line, 1),
-        weight: value_at(line, 2) as i16,
+    let n = value_at(line, 1);
+    let w = value_at(line, 2);
+    let formed = is_line(line, b"output", 1, 3);
+    let fit = in_range(n, 1, 56) & in_range(w, 1, 15);
+    let exist = (n as usize) <= top;
+    OutputLine {
+        number: refusal(formed, fit, true, exist, true),
+        output: Output {
+            line: n,
+            weight: w as i16,
+        },
     }
 }
 
 fn is_fault(line: &[u8]) -> bool
     ensures { λ r. ⌜ r ≡ isFault (now (line .entry)) ⌝ }
 {
-    is_line(line, b"fault", 1, 3) | is_line(line, b"fault", 1, 5) | is_line(line, b"fault", 1, 7)
+    let fields = text::fields(line);
+    if !((fields == 3) | (fields == 5) | (fields == 7)) {
+        return false;
+    }
+    is_line(line, b"fault", 1, fields)
 }
 
-// Whether the pair at field k, if the line has one, is in range.
-fn pair_in_range(line: &[u8], k: usize) -> bool
+fn pair_at(line: &[u8], k: usize) -> Pair
     requires { ⌜ k ≤ 5 ⌝ }
-    ensures { λ r. ⌜ r ≡ pairFits (now (line .entry)) k ⌝ }
+    ensures { λ r. ⌜ (r .line ≡ valueAt (now (line .entry)) k) × (r .value ≡ valueAt (now (line .entry)) (suc k)) ⌝ }
 {
-    let absent = text::fields(line) <= k;
-    absent | (in_range(line, k, 1, 56) & in_range(line, k + 1, 0, 1))
-}
-
-fn fault_in_range(line: &[u8]) -> bool
-    ensures { λ r. ⌜ r ≡ faultFits (now (line .entry)) ⌝ }
-{
-    pair_in_range(line, 1) & pair_in_range(line, 3) & pair_in_range(line, 5)
-}
-
-fn lines_exist(top: usize, line: &[u8]) -> bool
-    ensures { λ r. ⌜ r ≡ linesExist top (now (line .entry)) ⌝ }
-{
-    let a = value_at(line, 1) as usize;
-    let b = value_at(line, 3) as usize;
-    let c = value_at(line, 5) as usize;
-    (a <= top) & (b <= top) & (c <= top)
-}
-
-// Whether the line at field k, if there is one, is above that of the pair before.
-fn rises_at(line: &[u8], k: usize) -> bool
-    requires { ⌜ 2 ≤ k ⌝ }
-    ensures { λ r. ⌜ r ≡ risesAt (now (line .entry)) k ⌝ }
-{
-    let absent = text::fields(line) <= k;
-    let last = value_at(line, k - 2);
-    absent | (last < value_at(line, k))
-}
-
-pub(crate) fn fault_refusal(top: usize, line: &[u8]) -> u32
-    ensures { λ r. ⌜ r ≡ faultRefusal top (now (line .entry)) ⌝ }
-{
-    if !is_fault(line) {
-        return 2;
-    }
-    if !fault_in_range(line) {
-        return 3;
-    }
-    if !lines_exist(top, line) {
-        return 5;
-    }
-    if !(rises_at(line, 3) & rises_at(line, 5)) {
-        return 6;
-    }
-    0
-}
-
-fn stuck_at(line: &[u8], k: usize) -> Stuck
-    requires { ⌜ k ≤ 5 ⌝ }
-    ensures { λ r. ⌜ r ≡ stuckAt (now (line .entry)) k ⌝ }
-{
-    Stuck {
+    Pair {
         line: value_at(line, k),
-        value: value_at(line, k + 1) == 1,
+        value: value_at(line, k + 1),
     }
 }
 
-pub(crate) fn fault_of(line: &[u8]) -> Fault
-    ensures { λ r. ⌜ r ≡ faultOf (now (line .entry)) ⌝ }
+fn pair_in_range(absent: bool, p: Pair) -> bool
+    ensures { λ r. ⌜ r ≡ pairInRange absent (p .line) (p .value) ⌝ }
 {
-    Fault {
-        first: stuck_at(line, 1),
-        second: stuck_at(line, 3),
-        third: stuck_at(line, 5),
+    absent | (in_range(p.line, 1, 56) & in_range(p.value, 0, 1))
+}
+
+pub(crate) fn fault_line(top: usize, line: &[u8]) -> FaultLine
+    ensures { λ r. ⌜ (r .number ≡ faultRefusal top (now (line .entry))) × (r .fault ≡ faultOf (now (line .entry))) ⌝ }
+{
+    let fields = text::fields(line);
+    let a = pair_at(line, 1);
+    let b = pair_at(line, 3);
+    let c = pair_at(line, 5);
+    let formed = is_fault(line);
+    let fit = pair_in_range(fields <= 1, a)
+        & pair_in_range(fields <= 3, b)
+        & pair_in_range(fields <= 5, c);
+    let exist = ((a.line as usize) <= top)
+        & ((b.line as usize) <= top)
+        & ((c.line as usize) <= top);
+    let rise = ((fields <= 3) | (a.line < b.line)) & ((fields <= 5) | (b.line < c.line));
+    FaultLine {
+        number: refusal(formed, fit, true, exist, rise),
+        fault: Fault {
+            first: Stuck {
+                line: a.line,
+                value: a.value == 1,
+            },
+            second: Stuck {
+                line: b.line,
+                value: b.value == 1,
+            },
+            third: Stuck {
+                line: c.line,
+                value: c.value == 1,
+            },
+        },
     }
 }

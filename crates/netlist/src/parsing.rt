@@ -61,7 +61,8 @@ fn gates(text: &[u8], from: usize, inputs: usize, count: usize) -> GateLines
                 gates,
             };
         }
-        let number = lines::gate_refusal(inputs + j + 1, &text[at..end]);
+        let said = lines::gate_line(inputs + j + 1, &text[at..end]);
+        let number = said.number;
         if number != 0 {
             return GateLines {
                 number,
@@ -70,7 +71,8 @@ fn gates(text: &[u8], from: usize, inputs: usize, count: usize) -> GateLines
                 gates,
             };
         }
-        gates[j] = lines::gate_of(&text[at..end]);
+        let gate = said.gate;
+        gates[j] = gate;
         at = end + 1;
         j += 1;
     }
@@ -100,7 +102,8 @@ fn outputs(text: &[u8], from: usize, top: usize, count: usize, place: usize) -> 
                 outputs,
             };
         }
-        let number = lines::output_refusal(top, &text[at..end]);
+        let said = lines::output_line(top, &text[at..end]);
+        let number = said.number;
         if number != 0 {
             return OutputLines {
                 number,
@@ -109,7 +112,8 @@ fn outputs(text: &[u8], from: usize, top: usize, count: usize, place: usize) -> 
                 outputs,
             };
         }
-        outputs[j] = lines::output_of(&text[at..end]);
+        let output = said.output;
+        outputs[j] = output;
         at = end + 1;
         j += 1;
     }
@@ -147,7 +151,8 @@ fn faults(text: &[u8], from: usize, top: usize, count: usize, place: usize) -> F
                 faults,
             };
         }
-        let number = lines::fault_refusal(top, &text[at..end]);
+        let said = lines::fault_line(top, &text[at..end]);
+        let number = said.number;
         if number != 0 {
             return FaultLines {
                 number,
@@ -156,7 +161,8 @@ fn faults(text: &[u8], from: usize, top: usize, count: usize, place: usize) -> F
                 faults,
             };
         }
-        faults[j] = lines::fault_of(&text[at..end]);
+        let fault = said.fault;
+        faults[j] = fault;
         at = end + 1;
         j += 1;
     }
@@ -252,9 +258,10 @@ pub fn parse(text: &[u8]) -> Parsed
     if text.len() <= end {
         return refused(2, 1);
     }
-    let number = lines::head_refusal(&text[0..end]);
+    let said = lines::head_line(&text[0..end]);
+    let number = said.number;
     if number != 0 {
         return refused(number, 1);
     }
-    body(text, end + 1, lines::head_of(&text[0..end]))
+    body(text, end + 1, said.head)
 }

@@ -5,29 +5,27 @@
 --   text-stop, fault-stop, served    the call's answer and what it leaves, by the parser's answer
 use mathlib.Core.Path.{_≡_, refl, sym, ap, _∙_, subst}
 use mathlib.Core.List.{List}
-use Prim.Native.Nat.{ℕ, _*_, _^_, _<_, _≤_}
+use Prim.Native.Nat.{ℕ, _^_, _<_, _≤_}
 use native.Mathlib.Nat.{le-trans, mul-le-mul, le-refl}
 use native.Mathlib.Omega.{arith}
-use lib.Dec.{lit≤}
-use lib.IntN.{ℤ, pos, natAbs}
+use lib.IntN.{ℤ}
 use lib.ListN.{length}
 use lib.Pow.{pow-mono}
 use lib.Seq.{length-take-le}
 use borrow.Author.Tests.{lt-ltb, le-ltb, eq-eqb, ne-eqb}
 use Rattle.integer.specs.Tab.{Within}
 use Rattle.netlist.specs.Circuits.{Netlist, netlistOf, Sized, faultAt}
-use Rattle.netlist.specs.Parsing.{accepted, rejected, parseOf, meaning}
+use Rattle.netlist.specs.Parsing.{accepted, parseOf, meaning}
 use Rattle.simulation.specs.Rows.{rowsOf}
 use Rattle.netlist.specs.WellFormed.{WellFormed}
-use Rattle.netlist.specs.declared.Circuit.{Circuit}
 use Rattle.netlist.specs.declared.Fault.{Fault}
 use Rattle.netlist.specs.declared.Parsed.{Parsed}
 use Rattle.netlist.proofs.Acceptance.{well-formed}
 use Rattle.netlist.proofs.Assembling.{meant}
 use Rattle.simulation.proofs.RowBounds.{length-rows, rows-within}
-use Rattle.walsh.specs.Answers.{minus, screenOf, inputsOf}
+use Rattle.walsh.specs.Answers.{screenOf, inputsOf}
 use Rattle.walsh.specs.Lists.{spectrumAnswer}
-use Rattle.walsh.specs.declared.Answer.the-variants.{Done, Refused}
+use Rattle.walsh.specs.declared.Answer.the-variants.{Refused}
 use Rattle.walsh.proofs.Screens.{inputs-is, within-screened}
 use Rattle.walsh.proofs.Spectra.{within-spectrum}
 use Rattle.planner.specs.CircuitCall.{roomAnswer, faultAnswer, circuitAnswer, faultSpectrum, circuitSpectrum}

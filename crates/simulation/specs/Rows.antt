@@ -1,6 +1,6 @@
 -- The values of a circuit's lines and outputs on a row (document 01, "Rows"). Line i stands at index i of a list of line values; index 0 is no
 -- line and shows 0, and so does a line past the list's end.
-use Prim.Native.Nat.{ℕ, zero, suc, _+_, _/_, _%_, _^_}
+use Prim.Native.Nat.{ℕ, _+_, _/_, _%_, _^_}
 use mathlib.Core.Bool.{Bool, true, false, not, cond, _&&_, _||_, xor}
 use mathlib.Core.List.{List, [], _∷_, _++_}
 use lib.Dec.{eqb}

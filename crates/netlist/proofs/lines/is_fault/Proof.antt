@@ -1,8 +1,20 @@
 use mathlib.Core.Path.{sym}
+use mathlib.Core.Bool.{_||_}
+use lib.Dec.{eqb}
 use borrow.Author.Needs.{needs}
+use borrow.Author.Tests.{not-true, not-false}
 use Rattle.netlist.specs.Lines.{isFault}
 use Rattle.netlist.proofs.lines.is_fault.Statement.{statement}
 use Rattle.netlist.proofs.lines.is_fault.Tie as tie
+
+fields-requires : tie.Need-fields-requires
+fields-requires c κs = search needs
+
+returns : tie.Need-returns
+unfolding isFault
+returns c =
+    let n = c .before .fields in
+    simp (sym (n .ensures), not-true ((eqb (n .result) 3 || eqb (n .result) 5) || eqb (n .result) 7) (c .if1 .taken))
 
 slice-aggregate-is-line : tie.Need-slice-aggregate-is-line
 slice-aggregate-is-line c = search needs
@@ -10,34 +22,12 @@ slice-aggregate-is-line c = search needs
 is-line-requires : tie.Need-is-line-requires
 is-line-requires c κs = search needs
 
-slice-aggregate-is-line-2 : tie.Need-slice-aggregate-is-line-2
-slice-aggregate-is-line-2 c = search needs
-
-is-line-requires-2 : tie.Need-is-line-requires-2
-is-line-requires-2 c κs = search needs
-
-slice-aggregate-is-line-3 : tie.Need-slice-aggregate-is-line-3
-slice-aggregate-is-line-3 c = search needs
-
-is-line-requires-3 : tie.Need-is-line-requires-3
-is-line-requires-3 c κs = search needs
-
-returns : tie.Need-returns
+returns-2 : tie.Need-returns-2
 unfolding isFault
-returns c = simp (
-  sym (c .before .before .before .before .is-line .ensures),
-  sym (c .before .before .is-line2 .ensures),
-  sym (c .is-line3 .ensures),
-)
+returns-2 c =
+    let n = c .before .before .before .fields in
+    simp (sym (n .ensures), not-false ((eqb (n .result) 3 || eqb (n .result) 5) || eqb (n .result) 7) (c .before .before .if1 .left), sym (c .is-line .ensures))
 
 pub is-fault-spec : {M : Type 1} → statement M
 is-fault-spec =
-    tie.close
-    (tie.spec
-    slice-aggregate-is-line
-    is-line-requires
-    slice-aggregate-is-line-2
-    is-line-requires-2
-    slice-aggregate-is-line-3
-    is-line-requires-3
-    returns)
+    tie.close (tie.spec fields-requires returns slice-aggregate-is-line is-line-requires returns-2)

@@ -1,11 +1,16 @@
 use mathlib.Core.Path.{sym}
 use borrow.Author.Needs.{needs}
+use borrow.Author.Tests.{ne-eqb, eq-eqb}
 use Rattle.netlist.specs.Lines.{isLine}
 use Rattle.netlist.proofs.lines.is_line.Statement.{statement}
 use Rattle.netlist.proofs.lines.is_line.Tie as tie
 
 fields-requires : tie.Need-fields-requires
 fields-requires c κs = search needs
+
+returns : tie.Need-returns
+unfolding isLine
+returns c = simp (sym (c .before .fields .ensures), ne-eqb _ _ (c .if1 .taken))
 
 field-requires : tie.Need-field-requires
 field-requires c κs = search needs
@@ -16,10 +21,11 @@ same-requires c κs = search needs
 numbers-requires : tie.Need-numbers-requires
 numbers-requires c κs = search needs
 
-returns : tie.Need-returns
+returns-2 : tie.Need-returns-2
 unfolding isLine
-returns c = simp (
-  sym (c .before .before .before .fields .ensures),
+returns-2 c = simp (
+  sym (c .before .before .before .before .fields .ensures),
+  eq-eqb _ _ (c .before .before .before .if1 .left),
   sym (c .before .before .field .ensures),
   sym (c .before .same .ensures),
   sym (c .numbers .ensures),
@@ -27,4 +33,5 @@ returns c = simp (
 
 pub is-line-spec : {M : Type 1} → statement M
 is-line-spec =
-    tie.close (tie.spec fields-requires field-requires same-requires numbers-requires returns)
+    tie.close
+    (tie.spec fields-requires returns field-requires same-requires numbers-requires returns-2)

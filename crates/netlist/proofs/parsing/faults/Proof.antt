@@ -21,8 +21,8 @@ loop-holds c = let a = c .before .args in begun (nthFaultRefusal (a .top)) fault
 find-requires : tie.Need-find-requires Inv-loop μ-loop
 find-requires c κs = search needs
 
-add-t15 : tie.Need-add-t15 Inv-loop μ-loop
-add-t15 c = search needs
+add-t17 : tie.Need-add-t17 Inv-loop μ-loop
+add-t17 c = search needs
 
 returns : tie.Need-returns Inv-loop μ-loop
 returns c =
@@ -31,40 +31,28 @@ returns c =
     let f = c .before .find in
     missing (nthFaultRefusal (a .top)) faultOf (now (a .text)) (a .from) (a .place) (a .count) 32 (l .faults) (l .j) (l .at) (omega arith) (l .inv) (omega arith) (f .result) (f .ensures) (omega arith)
 
-sub-fault-refusal : tie.Need-sub-fault-refusal Inv-loop μ-loop
-sub-fault-refusal c = search needs
+sub-fault-line : tie.Need-sub-fault-line Inv-loop μ-loop
+sub-fault-line c = search needs
 
-part-fault-refusal-start : tie.Need-part-fault-refusal-start Inv-loop μ-loop
-part-fault-refusal-start c = search needs
+part-fault-line-start : tie.Need-part-fault-line-start Inv-loop μ-loop
+part-fault-line-start c = search needs
 
-part-fault-refusal-end : tie.Need-part-fault-refusal-end Inv-loop μ-loop
-part-fault-refusal-end c = search needs
+part-fault-line-end : tie.Need-part-fault-line-end Inv-loop μ-loop
+part-fault-line-end c = search needs
 
-fault-refusal-requires : tie.Need-fault-refusal-requires Inv-loop μ-loop
-fault-refusal-requires c κs = search needs
+fault-line-requires : tie.Need-fault-line-requires Inv-loop μ-loop
+fault-line-requires c κs = search needs
 
-add-t20 : tie.Need-add-t20 Inv-loop μ-loop
-add-t20 c = search needs
+add-t22 : tie.Need-add-t22 Inv-loop μ-loop
+add-t22 c = search needs
 
 returns-2 : tie.Need-returns-2 Inv-loop μ-loop
 returns-2 c =
     let a = c .before .before .before .before .before .before .before .before .args in
     let l = c .before .before .before .before .before .before .loop in
     let f = c .before .before .before .before .find in
-    let r = c .before .fault-refusal in
-    declined (nthFaultRefusal (a .top)) faultOf (now (a .text)) (a .from) (a .place) (a .count) 32 (l .faults) (l .j) (l .at) (omega arith) (l .inv) (omega arith) (f .result) (f .ensures) (omega arith) (r .result) (r .ensures) (c .if2 .taken)
-
-sub-fault-of : tie.Need-sub-fault-of Inv-loop μ-loop
-sub-fault-of c = search needs
-
-part-fault-of-start : tie.Need-part-fault-of-start Inv-loop μ-loop
-part-fault-of-start c = search needs
-
-part-fault-of-end : tie.Need-part-fault-of-end Inv-loop μ-loop
-part-fault-of-end c = search needs
-
-fault-of-requires : tie.Need-fault-of-requires Inv-loop μ-loop
-fault-of-requires c κs = search needs
+    let r = c .before .fault-line in
+    declined (nthFaultRefusal (a .top)) faultOf (now (a .text)) (a .from) (a .place) (a .count) 32 (l .faults) (l .j) (l .at) (omega arith) (l .inv) (omega arith) (f .result) (f .ensures) (omega arith) (r .result .number) (r .ensures .0) (c .if2 .taken)
 
 mul-faults : tie.Need-mul-faults Inv-loop μ-loop
 mul-faults c = search needs
@@ -83,11 +71,11 @@ loop-less c = search needs
 
 loop-again : tie.Need-loop-again Inv-loop μ-loop
 loop-again c =
-    let a = c .before .before .before .before .before .before .before .before .before .before .args in
-    let l = c .before .before .before .before .before .before .before .before .loop in
-    let f = c .before .before .before .before .before .before .find in
-    let r = c .before .before .before .fault-refusal in
-    turned (nthFaultRefusal (a .top)) faultOf (now (a .text)) (a .from) (a .place) (a .count) 32 (l .faults) (l .j) (l .at) (omega arith) (l .inv) (omega arith) (f .result) (f .ensures) (omega arith) (r .result) (r .ensures) (c .fault-of .result) (c .before .before .if2 .left) (c .fault-of .ensures)
+    let a = c .before .before .before .before .before .before .before .before .before .args in
+    let l = c .before .before .before .before .before .before .before .loop in
+    let f = c .before .before .before .before .before .find in
+    let r = c .before .before .fault-line in
+    turned (nthFaultRefusal (a .top)) faultOf (now (a .text)) (a .from) (a .place) (a .count) 32 (l .faults) (l .j) (l .at) (omega arith) (l .inv) (omega arith) (f .result) (f .ensures) (omega arith) (r .result .number) (r .ensures .0) (r .result .fault) (c .before .if2 .left) (r .ensures .1)
 
 returns-3 : tie.Need-returns-3 Inv-loop μ-loop
 returns-3 c =
@@ -103,18 +91,14 @@ faults-spec =
     μ-loop
     loop-holds
     find-requires
-    add-t15
+    add-t17
     returns
-    sub-fault-refusal
-    part-fault-refusal-start
-    part-fault-refusal-end
-    fault-refusal-requires
-    add-t20
+    sub-fault-line
+    part-fault-line-start
+    part-fault-line-end
+    fault-line-requires
+    add-t22
     returns-2
-    sub-fault-of
-    part-fault-of-start
-    part-fault-of-end
-    fault-of-requires
     mul-faults
     array-set-from-faults
     add-at

@@ -21,8 +21,8 @@ loop-holds c = let a = c .before .args in begun (nthGateRefusal (a .inputs)) gat
 find-requires : tie.Need-find-requires Inv-loop μ-loop
 find-requires c κs = search needs
 
-add-t14 : tie.Need-add-t14 Inv-loop μ-loop
-add-t14 c = search needs
+add-t16 : tie.Need-add-t16 Inv-loop μ-loop
+add-t16 c = search needs
 
 returns : tie.Need-returns Inv-loop μ-loop
 returns c =
@@ -31,46 +31,34 @@ returns c =
     let f = c .before .find in
     missing (nthGateRefusal (a .inputs)) gateOf (now (a .text)) (a .from) 2 (a .count) 48 (l .gates) (l .j) (l .at) (omega arith) (l .inv) (omega arith) (f .result) (f .ensures) (omega arith)
 
-add-gate-refusal : tie.Need-add-gate-refusal Inv-loop μ-loop
-add-gate-refusal c = search needs
+add-gate-line : tie.Need-add-gate-line Inv-loop μ-loop
+add-gate-line c = search needs
 
-add-gate-refusal-2 : tie.Need-add-gate-refusal-2 Inv-loop μ-loop
-add-gate-refusal-2 c = search needs
+add-gate-line-2 : tie.Need-add-gate-line-2 Inv-loop μ-loop
+add-gate-line-2 c = search needs
 
-sub-gate-refusal : tie.Need-sub-gate-refusal Inv-loop μ-loop
-sub-gate-refusal c = search needs
+sub-gate-line : tie.Need-sub-gate-line Inv-loop μ-loop
+sub-gate-line c = search needs
 
-part-gate-refusal-start : tie.Need-part-gate-refusal-start Inv-loop μ-loop
-part-gate-refusal-start c = search needs
+part-gate-line-start : tie.Need-part-gate-line-start Inv-loop μ-loop
+part-gate-line-start c = search needs
 
-part-gate-refusal-end : tie.Need-part-gate-refusal-end Inv-loop μ-loop
-part-gate-refusal-end c = search needs
+part-gate-line-end : tie.Need-part-gate-line-end Inv-loop μ-loop
+part-gate-line-end c = search needs
 
-gate-refusal-requires : tie.Need-gate-refusal-requires Inv-loop μ-loop
-gate-refusal-requires c κs = search needs
+gate-line-requires : tie.Need-gate-line-requires Inv-loop μ-loop
+gate-line-requires c κs = search needs
 
-add-t21 : tie.Need-add-t21 Inv-loop μ-loop
-add-t21 c = search needs
+add-t23 : tie.Need-add-t23 Inv-loop μ-loop
+add-t23 c = search needs
 
 returns-2 : tie.Need-returns-2 Inv-loop μ-loop
 returns-2 c =
     let a = c .before .before .before .before .before .before .before .before .args in
     let l = c .before .before .before .before .before .before .loop in
     let f = c .before .before .before .before .find in
-    let r = c .before .gate-refusal in
-    declined (nthGateRefusal (a .inputs)) gateOf (now (a .text)) (a .from) 2 (a .count) 48 (l .gates) (l .j) (l .at) (omega arith) (l .inv) (omega arith) (f .result) (f .ensures) (omega arith) (r .result) (r .ensures) (c .if2 .taken)
-
-sub-gate-of : tie.Need-sub-gate-of Inv-loop μ-loop
-sub-gate-of c = search needs
-
-part-gate-of-start : tie.Need-part-gate-of-start Inv-loop μ-loop
-part-gate-of-start c = search needs
-
-part-gate-of-end : tie.Need-part-gate-of-end Inv-loop μ-loop
-part-gate-of-end c = search needs
-
-gate-of-requires : tie.Need-gate-of-requires Inv-loop μ-loop
-gate-of-requires c κs = search needs
+    let r = c .before .gate-line in
+    declined (nthGateRefusal (a .inputs)) gateOf (now (a .text)) (a .from) 2 (a .count) 48 (l .gates) (l .j) (l .at) (omega arith) (l .inv) (omega arith) (f .result) (f .ensures) (omega arith) (r .result .number) (r .ensures .0) (c .if2 .taken)
 
 mul-gates : tie.Need-mul-gates Inv-loop μ-loop
 mul-gates c = search needs
@@ -89,11 +77,11 @@ loop-less c = search needs
 
 loop-again : tie.Need-loop-again Inv-loop μ-loop
 loop-again c =
-    let a = c .before .before .before .before .before .before .before .before .before .before .args in
-    let l = c .before .before .before .before .before .before .before .before .loop in
-    let f = c .before .before .before .before .before .before .find in
-    let r = c .before .before .before .gate-refusal in
-    turned (nthGateRefusal (a .inputs)) gateOf (now (a .text)) (a .from) 2 (a .count) 48 (l .gates) (l .j) (l .at) (omega arith) (l .inv) (omega arith) (f .result) (f .ensures) (omega arith) (r .result) (r .ensures) (c .gate-of .result) (c .before .before .if2 .left) (c .gate-of .ensures)
+    let a = c .before .before .before .before .before .before .before .before .before .args in
+    let l = c .before .before .before .before .before .before .before .loop in
+    let f = c .before .before .before .before .before .find in
+    let r = c .before .before .gate-line in
+    turned (nthGateRefusal (a .inputs)) gateOf (now (a .text)) (a .from) 2 (a .count) 48 (l .gates) (l .j) (l .at) (omega arith) (l .inv) (omega arith) (f .result) (f .ensures) (omega arith) (r .result .number) (r .ensures .0) (r .result .gate) (c .before .if2 .left) (r .ensures .1)
 
 returns-3 : tie.Need-returns-3 Inv-loop μ-loop
 returns-3 c =
@@ -109,20 +97,16 @@ gates-spec =
     μ-loop
     loop-holds
     find-requires
-    add-t14
+    add-t16
     returns
-    add-gate-refusal
-    add-gate-refusal-2
-    sub-gate-refusal
-    part-gate-refusal-start
-    part-gate-refusal-end
-    gate-refusal-requires
-    add-t21
+    add-gate-line
+    add-gate-line-2
+    sub-gate-line
+    part-gate-line-start
+    part-gate-line-end
+    gate-line-requires
+    add-t23
     returns-2
-    sub-gate-of
-    part-gate-of-start
-    part-gate-of-end
-    gate-of-requires
     mul-gates
     array-set-from-gates
     add-at

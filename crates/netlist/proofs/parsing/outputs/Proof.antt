@@ -21,8 +21,8 @@ loop-holds c = let a = c .before .args in begun (nthOutputRefusal (a .top)) outp
 find-requires : tie.Need-find-requires Inv-loop μ-loop
 find-requires c κs = search needs
 
-add-t14 : tie.Need-add-t14 Inv-loop μ-loop
-add-t14 c = search needs
+add-t16 : tie.Need-add-t16 Inv-loop μ-loop
+add-t16 c = search needs
 
 returns : tie.Need-returns Inv-loop μ-loop
 returns c =
@@ -31,40 +31,28 @@ returns c =
     let f = c .before .find in
     missing (nthOutputRefusal (a .top)) outputOf (now (a .text)) (a .from) (a .place) (a .count) 4 (l .outputs) (l .j) (l .at) (omega arith) (l .inv) (omega arith) (f .result) (f .ensures) (omega arith)
 
-sub-output-refusal : tie.Need-sub-output-refusal Inv-loop μ-loop
-sub-output-refusal c = search needs
+sub-output-line : tie.Need-sub-output-line Inv-loop μ-loop
+sub-output-line c = search needs
 
-part-output-refusal-start : tie.Need-part-output-refusal-start Inv-loop μ-loop
-part-output-refusal-start c = search needs
+part-output-line-start : tie.Need-part-output-line-start Inv-loop μ-loop
+part-output-line-start c = search needs
 
-part-output-refusal-end : tie.Need-part-output-refusal-end Inv-loop μ-loop
-part-output-refusal-end c = search needs
+part-output-line-end : tie.Need-part-output-line-end Inv-loop μ-loop
+part-output-line-end c = search needs
 
-output-refusal-requires : tie.Need-output-refusal-requires Inv-loop μ-loop
-output-refusal-requires c κs = search needs
+output-line-requires : tie.Need-output-line-requires Inv-loop μ-loop
+output-line-requires c κs = search needs
 
-add-t19 : tie.Need-add-t19 Inv-loop μ-loop
-add-t19 c = search needs
+add-t21 : tie.Need-add-t21 Inv-loop μ-loop
+add-t21 c = search needs
 
 returns-2 : tie.Need-returns-2 Inv-loop μ-loop
 returns-2 c =
     let a = c .before .before .before .before .before .before .before .before .args in
     let l = c .before .before .before .before .before .before .loop in
     let f = c .before .before .before .before .find in
-    let r = c .before .output-refusal in
-    declined (nthOutputRefusal (a .top)) outputOf (now (a .text)) (a .from) (a .place) (a .count) 4 (l .outputs) (l .j) (l .at) (omega arith) (l .inv) (omega arith) (f .result) (f .ensures) (omega arith) (r .result) (r .ensures) (c .if2 .taken)
-
-sub-output-of : tie.Need-sub-output-of Inv-loop μ-loop
-sub-output-of c = search needs
-
-part-output-of-start : tie.Need-part-output-of-start Inv-loop μ-loop
-part-output-of-start c = search needs
-
-part-output-of-end : tie.Need-part-output-of-end Inv-loop μ-loop
-part-output-of-end c = search needs
-
-output-of-requires : tie.Need-output-of-requires Inv-loop μ-loop
-output-of-requires c κs = search needs
+    let r = c .before .output-line in
+    declined (nthOutputRefusal (a .top)) outputOf (now (a .text)) (a .from) (a .place) (a .count) 4 (l .outputs) (l .j) (l .at) (omega arith) (l .inv) (omega arith) (f .result) (f .ensures) (omega arith) (r .result .number) (r .ensures .0) (c .if2 .taken)
 
 mul-outputs : tie.Need-mul-outputs Inv-loop μ-loop
 mul-outputs c = search needs
@@ -83,11 +71,11 @@ loop-less c = search needs
 
 loop-again : tie.Need-loop-again Inv-loop μ-loop
 loop-again c =
-    let a = c .before .before .before .before .before .before .before .before .before .before .args in
-    let l = c .before .before .before .before .before .before .before .before .loop in
-    let f = c .before .before .before .before .before .before .find in
-    let r = c .before .before .before .output-refusal in
-    turned (nthOutputRefusal (a .top)) outputOf (now (a .text)) (a .from) (a .place) (a .count) 4 (l .outputs) (l .j) (l .at) (omega arith) (l .inv) (omega arith) (f .result) (f .ensures) (omega arith) (r .result) (r .ensures) (c .output-of .result) (c .before .before .if2 .left) (c .output-of .ensures)
+    let a = c .before .before .before .before .before .before .before .before .before .args in
+    let l = c .before .before .before .before .before .before .before .loop in
+    let f = c .before .before .before .before .before .find in
+    let r = c .before .before .output-line in
+    turned (nthOutputRefusal (a .top)) outputOf (now (a .text)) (a .from) (a .place) (a .count) 4 (l .outputs) (l .j) (l .at) (omega arith) (l .inv) (omega arith) (f .result) (f .ensures) (omega arith) (r .result .number) (r .ensures .0) (r .result .output) (c .before .if2 .left) (r .ensures .1)
 
 returns-3 : tie.Need-returns-3 Inv-loop μ-loop
 returns-3 c =
@@ -103,18 +91,14 @@ outputs-spec =
     μ-loop
     loop-holds
     find-requires
-    add-t14
+    add-t16
     returns
-    sub-output-refusal
-    part-output-refusal-start
-    part-output-refusal-end
-    output-refusal-requires
-    add-t19
+    sub-output-line
+    part-output-line-start
+    part-output-line-end
+    output-line-requires
+    add-t21
     returns-2
-    sub-output-of
-    part-output-of-start
-    part-output-of-end
-    output-of-requires
     mul-outputs
     array-set-from-outputs
     add-at

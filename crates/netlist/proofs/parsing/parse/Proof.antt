@@ -34,17 +34,17 @@ returns-2 c =
     let f = c .before .before .find in
     (meant (r .result) 2 1 (r .ensures .0) (r .ensures .1) (λ e. absurd (omega arith)) ∙ sym (no-head text (c .before .before .before .if1 .left) (f .result) (f .ensures) (c .before .if2 .taken)), r .ensures .2)
 
-sub-head-refusal : tie.Need-sub-head-refusal
-sub-head-refusal c = search needs
+sub-head-line : tie.Need-sub-head-line
+sub-head-line c = search needs
 
-part-head-refusal-start : tie.Need-part-head-refusal-start
-part-head-refusal-start c = search needs
+part-head-line-start : tie.Need-part-head-line-start
+part-head-line-start c = search needs
 
-part-head-refusal-end : tie.Need-part-head-refusal-end
-part-head-refusal-end c = search needs
+part-head-line-end : tie.Need-part-head-line-end
+part-head-line-end c = search needs
 
-head-refusal-requires : tie.Need-head-refusal-requires
-head-refusal-requires c κs = search needs
+head-line-requires : tie.Need-head-line-requires
+head-line-requires c κs = search needs
 
 refused-requires-3 : tie.Need-refused-requires-3
 refused-requires-3 c κs = search needs
@@ -54,43 +54,30 @@ returns-3 c =
     let text = now (c .before .before .before .before .before .before .before .before .args .text) in
     let r = c .refused3 in
     let f = c .before .before .before .before .before .find in
-    let h = c .before .before .head-refusal in
+    let h = c .before .before .head-line in
     let stopped = c .before .if3 .taken in (
-      meant (r .result) (h .result) 1 (r .ensures .0) (r .ensures .1) stopped
-          ∙ sym (head-stop text (c .before .before .before .before .before .before .if1 .left) (f .result) (f .ensures) (c .before .before .before .before .if2 .left) (h .result) (h .ensures) stopped),
+      meant (r .result) (h .result .number) 1 (r .ensures .0) (r .ensures .1) stopped
+          ∙ sym (head-stop text (c .before .before .before .before .before .before .if1 .left) (f .result) (f .ensures) (c .before .before .before .before .if2 .left) (h .result .number) (h .ensures .0) stopped),
       r .ensures .2,
     )
 
 add-body : tie.Need-add-body
 add-body c = search needs
 
-sub-head-of : tie.Need-sub-head-of
-sub-head-of c = search needs
-
-part-head-of-start : tie.Need-part-head-of-start
-part-head-of-start c = search needs
-
-part-head-of-end : tie.Need-part-head-of-end
-part-head-of-end c = search needs
-
-head-of-requires : tie.Need-head-of-requires
-head-of-requires c κs = search needs
-
 body-requires : tie.Need-body-requires
 body-requires c κs =
-    let h = c .before .before .before .head-refusal in
-    let right = subst⁻¹ HeadRight (c .head-of .ensures) (head-fits _ (sym (h .ensures) ∙ c .before .before .if3 .left)) in
+    let h = c .before .head-line in
+    let right = subst⁻¹ HeadRight (h .ensures .1) (head-fits _ (sym (h .ensures .0) ∙ c .if3 .left)) in
     (right .inputs-high, right .gates-high, right .outputs-high, right .faults-high)
 
 returns-4 : tie.Need-returns-4
 returns-4 c =
-    let text = now (c .before .before .before .before .before .before .before .before .before .before .args .text) in
-    let f = c .before .before .before .before .before .before .before .find in
-    let h = c .before .before .before .before .head-refusal in
-    let o = c .before .head-of in (
+    let text = now (c .before .before .before .before .before .before .before .before .args .text) in
+    let f = c .before .before .before .before .before .find in
+    let h = c .before .before .head-line in (
       c .body .ensures .0
-          ∙ ap (λ (x : Head). bodyOf x (drop (f .result + 1) text)) (o .ensures)
-          ∙ sym (head-passed text (c .before .before .before .before .before .before .before .before .if1 .left) (f .result) (f .ensures) (c .before .before .before .before .before .before .if2 .left) (h .result) (h .ensures) (c .before .before .before .if3 .left)),
+          ∙ ap (λ (x : Head). bodyOf x (drop (f .result + 1) text)) (h .ensures .1)
+          ∙ sym (head-passed text (c .before .before .before .before .before .before .if1 .left) (f .result) (f .ensures) (c .before .before .before .before .if2 .left) (h .result .number) (h .ensures .0) (c .before .if3 .left)),
       c .body .ensures .1,
     )
 
@@ -103,16 +90,12 @@ parse-spec =
     find-requires
     refused-requires-2
     returns-2
-    sub-head-refusal
-    part-head-refusal-start
-    part-head-refusal-end
-    head-refusal-requires
+    sub-head-line
+    part-head-line-start
+    part-head-line-end
+    head-line-requires
     refused-requires-3
     returns-3
     add-body
-    sub-head-of
-    part-head-of-start
-    part-head-of-end
-    head-of-requires
     body-requires
     returns-4)

@@ -1,7 +1,7 @@
 -- 2^N rows fit the front of the local array.
 use borrow.Author.Needs.{needs}
 use Prim.Native.Nat.{ℕ, _*_, _%_, _^_, _≤_}
-use mathlib.Core.Path.{_≡_, sym, ap, _∙_, subst⁻¹}
+use mathlib.Core.Path.{_≡_, sym, _∙_, subst⁻¹}
 use native.Mathlib.Omega.{arith}
 use lib.Pow.{pow-mono}
 use lib.Seq.{length-take-le}

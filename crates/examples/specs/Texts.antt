@@ -1,0 +1,60 @@
+-- The circuit texts of document 01's examples, a string for each line.
+use Prim.Native.Nat.{ℕ}
+use Prim.Native.Char.{code}
+use Prim.Native.String.{String, [] as none, _∷_ as _then_}
+use mathlib.Core.List.{List, [], _∷_, _++_}
+
+-- the bytes of a line of ASCII
+unfoldable pub bytesOf : String → List ℕ
+bytesOf none = []
+bytesOf (c then s) = code c ∷ bytesOf s
+
+-- each line ends in one byte 0A
+unfoldable pub textOf : List String → List ℕ
+textOf [] = []
+textOf (line ∷ lines) = bytesOf line ++ (10 ∷ textOf lines)
+
+-- x1x2 + x3
+unfoldable pub productOrInputText : List ℕ
+productOrInputText =
+    textOf
+    ("circuit,3,2,1,4,1"
+    ∷ "gate,and,1,2"
+    ∷ "gate,or,3,4"
+    ∷ "output,5,1"
+    ∷ "fault,1,0"
+    ∷ "fault,1,1"
+    ∷ "fault,3,0"
+    ∷ "fault,3,1"
+    ∷ [])
+
+-- x1x2x3 + x4·not(x2x3)
+unfoldable pub gatedText : List ℕ
+gatedText =
+    textOf
+    ("circuit,4,5,1,4,1"
+    ∷ "gate,and,2,3"
+    ∷ "gate,and,1,5"
+    ∷ "gate,not,5,0"
+    ∷ "gate,and,4,7"
+    ∷ "gate,or,6,8"
+    ∷ "output,9,1"
+    ∷ "fault,1,0,2,0"
+    ∷ "fault,1,1,2,0"
+    ∷ "fault,1,0,2,1"
+    ∷ "fault,1,1,2,1"
+    ∷ [])
+
+-- the listing: x1x2 + x3·not x2
+unfoldable pub listing : List ℕ
+listing =
+    textOf
+    ("circuit,3,4,1,2,2"
+    ∷ "gate,not,2,0"
+    ∷ "gate,and,1,2"
+    ∷ "gate,and,3,4"
+    ∷ "gate,or,5,6"
+    ∷ "output,7,1"
+    ∷ "fault,2,0"
+    ∷ "fault,2,1"
+    ∷ [])
