@@ -4,6 +4,7 @@ use denote.Ref.{now}
 use mathlib.Core.List.{List}
 use mathlib.Core.Path.{_≡_, refl, sym, ap, _∙_}
 use native.Mathlib.Nat.{le-trans}
+use native.Mathlib.Omega.{arith}
 use lib.Dec.{lit≤}
 use lib.IntN.{ℤ}
 use lib.ListN.{length}
@@ -34,7 +35,7 @@ returns-2 c =
     (sym (fault-stop (now (a .text)) (a .fault) (length (now (a .out))) (p .result) (p .ensures .0) (c .before .before .before .if1 .left) (p .ensures .1) (search (needs, length-mapped)) (c .if2 .taken)), refl)
 
 fault-at-requires : tie.Need-fault-at-requires
-fault-at-requires c κs = (c .before .before .before .before .parse .ensures .1, c .if2 .left)
+fault-at-requires c κs = (c .before .before .before .before .parse .ensures .1, omega (arith, c .if2 .left))
 
 fault-spectrum-requires : tie.Need-fault-spectrum-requires
 unfolding netlistOf
