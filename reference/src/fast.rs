@@ -1,6 +1,8 @@
 //! The plain fast transform, for the benchmark: the usual three nested
-//! loops in place, behind the same tests as the list call.
+//! loops in place, behind the same tests as the list call; and the circuit
+//! call with that transform.
 
+use crate::netlist;
 use crate::walsh::{test_length, test_range, test_room, Refusal, ROW_LIMIT};
 
 pub fn spectrum(rows: &[i32], out: &mut [i32]) -> Result<(), Refusal> {
@@ -22,9 +24,15 @@ pub fn spectrum(rows: &[i32], out: &mut [i32]) -> Result<(), Refusal> {
     Ok(())
 }
 
+pub fn circuit(text: &[u8], fault: u32, out: &mut [i32]) -> Result<(), Refusal> {
+    let rows = netlist::parse(text)?.rows(fault)?;
+    spectrum(&rows, out)
+}
+
 #[cfg(test)]
 mod tests {
     use super::*;
+    use crate::circuits::{Draft, Sizes};
     use crate::lent::Lent;
     use crate::random::Random;
     use crate::walsh;
@@ -52,5 +60,26 @@ mod tests {
             spectrum(&[0; 3], &mut [0; 3]),
             walsh::spectrum(&[0; 3], 3).map(|_| ())
         );
+    }
+
+    #[test]
+    fn circuits_equal_the_direct_sums() {
+        let mut random = Random::new(7);
+        for _ in 0..100 {
+            let sizes = Sizes::draw(&mut random);
+            let mut text = Draft::draw(&mut random, sizes).text();
+            if random.once_in(10) {
+                text.pop();
+            }
+            let room = (1 << sizes.inputs) - 1 + random.below(4);
+            for fault in 0..=sizes.faults as u32 + 1 {
+                let mut lent = Lent::new(room, || random.noise());
+                let found = circuit(&text, fault, lent.part());
+                let due = netlist::circuit(&text, fault, room);
+                assert_eq!(found, due.clone().map(|_| ()), "fault {fault}, {sizes:?}");
+                let written = due.unwrap_or_default();
+                lent.assert_holds(&written, format_args!("fault {fault}, {sizes:?}"));
+            }
+        }
     }
 }

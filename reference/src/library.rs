@@ -1,7 +1,7 @@
 //! The doors of the static library, with slices in place of pointers.
 
-/// What a list call gives back: number 0 and place 0 when it is done, else
-/// the refusal and its place.
+/// What a call with a lent buffer gives back: number 0 and place 0 when it is
+/// done, else the refusal and its place.
 #[repr(C)]
 #[derive(Clone, Copy, Debug, PartialEq, Eq)]
 pub struct Answer {
@@ -18,9 +18,17 @@ pub struct Found {
     pub place: usize,
 }
 
+/// What the field call gives back: a part of the text.
+#[repr(C)]
+#[derive(Clone, Copy, Debug, PartialEq, Eq)]
+pub struct Span {
+    pub start: usize,
+    pub length: usize,
+}
+
 /// The C interface itself.
 mod doors {
-    use super::{Answer, Found};
+    use super::{Answer, Found, Span};
 
     extern "C" {
         pub fn walsh_coefficient(rows: *const i32, rows_len: usize, label: u32) -> Found;
@@ -54,6 +62,14 @@ mod doors {
             out: *mut i32,
             out_len: usize,
         ) -> Answer;
+        pub fn walsh_circuit(
+            text: *const u8,
+            text_len: usize,
+            fault: u32,
+            out: *mut i32,
+            out_len: usize,
+        ) -> Answer;
+        pub fn walsh_field(text: *const u8, text_len: usize, number: usize) -> Span;
     }
 }
 
@@ -108,4 +124,22 @@ pub fn opened(coefficients: &[i32], values: &[u32], out: &mut [i32]) -> Answer {
             out.len(),
         )
     }
+}
+
+pub fn circuit(text: &[u8], fault: u32, out: &mut [i32]) -> Answer {
+    // SAFETY: as for `spectrum`.
+    unsafe {
+        doors::walsh_circuit(
+            text.as_ptr(),
+            text.len(),
+            fault,
+            out.as_mut_ptr(),
+            out.len(),
+        )
+    }
+}
+
+pub fn field(text: &[u8], number: usize) -> Span {
+    // SAFETY: pointer and length are those of one live slice.
+    unsafe { doors::walsh_field(text.as_ptr(), text.len(), number) }
 }

@@ -14,7 +14,7 @@ pub struct Refusal {
     pub place: usize,
 }
 
-fn refuse<T>(number: u32, place: usize) -> Result<T, Refusal> {
+pub fn refuse<T>(number: u32, place: usize) -> Result<T, Refusal> {
     Err(Refusal { number, place })
 }
 
@@ -27,7 +27,7 @@ pub fn test_length(list: &[i32]) -> Result<usize, Refusal> {
 }
 
 /// "argument out of range".
-fn test_argument(good: bool) -> Result<(), Refusal> {
+pub fn test_argument(good: bool) -> Result<(), Refusal> {
     if good {
         Ok(())
     } else {

@@ -3,6 +3,8 @@
 --   add-fits, sub-fits    the sum fits the width
 --   add-is, sub-is        it is a + b
 --   add-kept, sub-kept    it is read back as a + b once it was stored
+-- and, between widths:
+--   widens, recast        a number that fits both widths may be cast, and is the same after it
 use mathlib.Core.Path.{_≡_, ap, _∙_, subst⁻¹}
 use Prim.Native.Nat.{ℕ, _+_, _^_, _<_}
 use native.Mathlib.Nat.{lt-of-le-of-lt}
@@ -16,6 +18,13 @@ use Rattle.integer.proofs.Bounds.{natAbs-add, natAbs-sub, sfits-abs}
 -- a number that fits is read back from its bits
 pub reads : (w : Width) {s : ℕ} (a : ℤ) → s ≡ ofZ w a → natAbs a < 2 ^ hbits w → toZ w s ≡ a
 reads w a e h = ap (toZ w) e ∙ toZ-ofZ w a (sfits-abs h)
+
+module _ (v w : Width) (z : ℤ) (from : SFits v z) (to : SFits w z) where
+  pub widens : SFits w (toZ v (ofZ v z))
+  widens = subst⁻¹ (SFits w) (toZ-ofZ v z from) to
+
+  pub recast : toZ w (ofZ w (toZ v (ofZ v z))) ≡ z
+  recast = ap (λ (y : ℤ). toZ w (ofZ w y)) (toZ-ofZ v z from) ∙ toZ-ofZ w z to
 
 module _ (w : Width) {s t : ℕ} (a b : ℤ) (es : s ≡ ofZ w a) (et : t ≡ ofZ w b) (room : natAbs a + natAbs b < 2 ^ hbits w) where
   left : toZ w s ≡ a

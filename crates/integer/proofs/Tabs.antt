@@ -1,15 +1,16 @@
 -- Laws of `tab`:
 --   length-tab, getD-tab, tab-ext, tab-split, take-tab, tab-nth    its length, its elements, equal rules, two parts, its start, a list's own rule
---   tab-step, tab-ahead                                  a loop that writes f i at i: one turn; what it has not reached is as it was
+--   tab-step, write-turn, tab-ahead                      a loop that writes f i at i: one turn; what it has not reached is as it was
+--   length-mapped                                        the length of a list that is known by its image, as that of an array of structs
 use mathlib.Core.Path.{_≡_, refl, sym, ap, ap₂, _∙_}
-use mathlib.Core.List.{List, [], _∷_, _++_, append-assoc, append-nil}
+use mathlib.Core.List.{List, [], _∷_, _++_, map, append-assoc, append-nil}
 use Prim.Native.Nat.{ℕ, zero, suc, _+_, _-_, _≤_, _<_}
 use native.Mathlib.Nat.{add-zero, add-suc, lt-of-not-le}
 use native.Mathlib.Numerals.{add-one}
 use native.Mathlib.Decide.{decLe}
 use native.Mathlib.Omega.{arith}
 use lib.IntN.{ℤ, pos}
-use lib.ListN.{length, getD, take, drop, set, length-append, length-drop, List·getD-append}
+use lib.ListN.{length, length-map, getD, take, drop, set, length-append, length-drop, List·getD-append}
 use lib.Seq.{drop-cons, take-at, set-at, getD-at, getD-append-add, getD-drop, ext-getD}
 use Rattle.integer.specs.Tab.{tab, nth}
 
@@ -70,3 +71,9 @@ pub tab-nth : (l : List ℤ) → tab (length l) (nth l) ≡ l
 tab-nth l =
     let n = length-tab (length l) (nth l) in
     ext-getD (pos 0) (tab (length l) (nth l)) l n (λ i h. getD-tab (length l) (nth l) (pos 0) i (omega arith))
+
+pub write-turn : (d out : List ℤ) (f : ℕ → ℤ) (i : ℕ) (z : ℤ) → i < length d → out ≡ tab i f ++ drop i d → z ≡ f i → set out i z ≡ tab (i + 1) f ++ drop (i + 1) d
+write-turn d out f i z h e k = ap (λ (y : ℤ). set out i y) k ∙ ap (λ (o : List ℤ). set o i (f i)) e ∙ tab-step d f (pos 0) i h
+
+pub length-mapped : (X Y : Type 0) (f : X → Y) (l : List X) (n : ℕ) → length (map f l) ≡ n → length l ≡ n
+length-mapped X Y f l n e = sym (length-map l f) ∙ e

@@ -2,21 +2,17 @@
 --   length-padded               the array has 58 places
 --   set-padded                  a store just past the list is one line more
 --   reads-padded, reads-slot    what is read of the array, at a line and at its slot, is what the list shows there
---   length-mapped               the length of an array of structs, which a need knows by the array's image
 use mathlib.Core.Path.{_≡_, refl, sym, _∙_}
 use mathlib.Core.Bool.{Bool, true, false, cond}
-use mathlib.Core.List.{List, [], _∷_, _++_, map, append-assoc}
+use mathlib.Core.List.{List, [], _∷_, _++_, append-assoc}
 use Prim.Native.Nat.{ℕ, zero, suc, _-_, _≤_, _<_}
 use native.Mathlib.Omega.{arith}
 use borrow.Author.Tests.{ltb-false}
 use lib.Dec.{ltb}
-use lib.ListN.{length, set, replicate, length-append, length-replicate, length-map, List·getD-eq-default}
+use lib.ListN.{length, set, replicate, length-append, length-replicate, List·getD-eq-default}
 use lib.Seq.{set-append-seam}
 use Rattle.simulation.specs.Rows.{reads}
 use Rattle.simulation.specs.Steps.{padded, slotOf}
-
-pub length-mapped : (X Y : Type 0) (f : X → Y) (l : List X) (n : ℕ) → length (map f l) ≡ n → length l ≡ n
-length-mapped X Y f l n e = sym (length-map l f) ∙ e
 
 pub length-padded : (l : List Bool) → length l ≤ 58 → length (padded l) ≡ 58
 unfolding padded

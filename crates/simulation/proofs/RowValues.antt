@@ -2,27 +2,26 @@
 --   weight-small, weight-widens, weight-kept    a weight of 16 bits in 32
 --   sum-room, sum-more, sum-small    a loop that adds up terms within 32,768: one turn
 --   row-of                 the sum of what the code reads is the row's value
---   row-turn, rows-done    a loop that writes row x at x: one turn, and what is there at its end
+--   rows-done              what a loop that writes row x at x has written at its end
 --   rows-few               there are at most 256 rows
-use mathlib.Core.Path.{_≡_, sym, ap, _∙_, subst, subst⁻¹}
+use mathlib.Core.Path.{_≡_, sym, ap, _∙_, subst}
 use mathlib.Core.Bool.{Bool}
 use mathlib.Core.List.{List, _++_, append-nil}
 use Prim.Native.Nat.{ℕ, _+_, _*_, _^_, _≤_, _<_}
 use native.Mathlib.Numerals.{add-one}
 use native.Mathlib.Omega.{arith}
-use lib.IntN.{ℤ, pos, _+ℤ_, natAbs}
-use lib.ListN.{length, take, drop, getD, set, drop-of-length-le}
+use lib.IntN.{ℤ, _+ℤ_, natAbs}
+use lib.ListN.{length, take, drop, getD, drop-of-length-le}
 use lib.Pow.{pow-mono}
 use lib.Seq.{getD-take, length-take-le}
 use lib.Signed.{natAbs-le}
 use mir.Syntax.{w16, w32}
 use mir.Val.{SFits, toZ, ofZ}
-use mir.ValLaws.{toZ-ofZ}
 use Rattle.integer.specs.Sum.{sumTo}
 use Rattle.integer.specs.Tab.{tab}
 use Rattle.integer.proofs.Bounds.{natAbs-add, sfits-abs}
+use Rattle.integer.proofs.Machine.{widens, recast}
 use Rattle.integer.proofs.Sums.{sum-ext}
-use Rattle.integer.proofs.Tabs.{tab-step}
 use Rattle.netlist.specs.Circuits.{Netlist, netlistOf, Sized, noOutput}
 use Rattle.simulation.specs.Rows.{weighed, outputTerm, lineValues, rowValue, rowsOf, reads}
 use Rattle.simulation.specs.Steps.{padded, slotOf}
@@ -40,10 +39,10 @@ module _ (z : ℤ) (fits : SFits w16 z) where
   weight-fits = let h = weight-small in sfits-abs (omega arith)
 
   pub weight-widens : SFits w32 (toZ w16 (ofZ w16 z))
-  weight-widens = subst⁻¹ (SFits w32) (toZ-ofZ w16 z fits) weight-fits
+  weight-widens = widens w16 w32 z fits weight-fits
 
   pub weight-kept : toZ w32 (ofZ w32 (toZ w16 (ofZ w16 z))) ≡ z
-  weight-kept = ap (λ (y : ℤ). toZ w32 (ofZ w32 y)) (toZ-ofZ w16 z fits) ∙ toZ-ofZ w32 z weight-fits
+  weight-kept = recast w16 w32 z fits weight-fits
 
 module _ (t : ℕ → ℤ) (k : ℕ) (z : ℤ) where
   pub sum-more : z ≡ t k → sumTo k t +ℤ z ≡ sumTo (k + 1) t
@@ -80,10 +79,6 @@ row-of c f x {values} s room is =
     term = outputTerm lines (take (c .head .outputs) (c .outputs))
 
 module _ (n : Netlist) (f : Fault) (x : ℕ) (d : List ℤ) where
-  pub row-turn : {out : List ℤ} {z : ℤ} → x < length d → out ≡ tab x (rowValue n f) ++ drop x d → z ≡ rowValue n f x
-      → set out x z ≡ tab (x + 1) (rowValue n f) ++ drop (x + 1) d
-  row-turn h is e = rw (is, e) (tab-step d (rowValue n f) (pos 0) x h)
-
   pub rows-done : x ≡ length d → length d ≡ 2 ^ n .inputs → tab x (rowValue n f) ++ drop x d ≡ rowsOf n f
   unfolding rowsOf
   rows-done e size =

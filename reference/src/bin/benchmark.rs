@@ -1,13 +1,16 @@
 //! Times the library's whole-list calls on 2,048 numbers against the
-//! reference's direct ones and, for the spectrum, a plain fast transform.
+//! reference's direct ones and, for the spectrum, a plain fast transform; then
+//! its circuit call against rows one by one and that transform.
 
+use reference::circuits::{Draft, Sizes};
 use reference::random::Random;
 use reference::walsh::ROW_LIMIT;
-use reference::{fast, library, walsh};
+use reference::{fast, library, netlist, walsh};
 use std::hint::black_box;
 use std::time::Instant;
 
 const LENGTH: usize = 2048;
+const CIRCUIT_LENGTH: usize = 256;
 const ROUNDS: usize = 31;
 /// Calls are repeated within a measurement until it lasts this long.
 const MEASUREMENT_SECONDS: f64 = 0.002;
@@ -63,14 +66,17 @@ fn main() {
     let spectrum = walsh::spectrum(&rows, LENGTH).expect("rows in range");
     let (inputs, values) = ([2, 5, 11], [0, 1, 1]);
     check(&rows, &spectrum, &inputs, &values);
+    let text = Draft::draw(&mut random, Sizes::LARGEST).text();
+    let faults = check_circuit(&text);
 
-    let (rows, spectrum) = (&rows[..], &spectrum[..]);
+    let (rows, spectrum, text) = (&rows[..], &spectrum[..], &text[..]);
     // One buffer for each contender, so that none meets another's result.
-    let mut buffers = vec![vec![0; LENGTH]; 5];
+    let mut buffers = vec![vec![0; LENGTH]; 7];
     let mut lend = buffers.iter_mut();
     let mut buffer = || lend.next().expect("a buffer for each contender");
     let (to_spectrum, to_fast, to_rows) = (buffer(), buffer(), buffer());
     let (to_stuck, to_opened) = (buffer(), buffer());
+    let (to_circuit, to_fast_circuit) = (buffer(), buffer());
 
     let mut races = [
         Race {
@@ -125,6 +131,21 @@ fn main() {
                 let _ = black_box(walsh::opened(black_box(spectrum), values, LENGTH));
             })],
         },
+        Race {
+            name: "circuit, sound and 32 faults",
+            library: Contender::new("library", move || {
+                for fault in 0..=faults {
+                    let out = black_box(&mut to_circuit[..CIRCUIT_LENGTH]);
+                    black_box(library::circuit(black_box(text), black_box(fault), out));
+                }
+            }),
+            others: vec![Contender::new("rows, fast transform", move || {
+                for fault in 0..=faults {
+                    let out = black_box(&mut to_fast_circuit[..CIRCUIT_LENGTH]);
+                    let _ = black_box(fast::circuit(black_box(text), black_box(fault), out));
+                }
+            })],
+        },
     ];
 
     // Every round measures each contender once, so noise hits all alike.
@@ -140,6 +161,7 @@ fn main() {
 
     println!("Microseconds per call, median of {ROUNDS} interleaved rounds.");
     println!("Buffers were not cleared between calls; the reference makes its own list.");
+    println!("The circuit row is {} calls on one text.", faults + 1);
     println!();
     println!(
         "{:<28}{:>10}  {:<24}{:>10}{:>15}",
@@ -182,4 +204,26 @@ fn check(rows: &[i32], spectrum: &[i32], inputs: &[u32], values: &[u32]) {
     assert_eq!(library::opened(spectrum, values, &mut out).number, 0);
     let due = walsh::opened(spectrum, values, LENGTH).expect("a spectrum of rows");
     assert_eq!(out[..due.len()], due, "the results for opened lines differ");
+}
+
+/// The same for a circuit; gives the number of its faults.
+fn check_circuit(text: &[u8]) -> u32 {
+    let netlist = netlist::parse(text).expect("a good circuit");
+    let three_lines = netlist.faults.iter().filter(|fault| fault.len() == 3);
+    assert!(three_lines.count() > 0, "no fault has three lines");
+    let faults = netlist.faults.len() as u32;
+    for fault in 0..=faults {
+        let due = netlist::circuit(text, fault, CIRCUIT_LENGTH);
+        let mut out = vec![0; CIRCUIT_LENGTH];
+        assert_eq!(library::circuit(text, fault, &mut out).number, 0);
+        assert_eq!(
+            Ok(&out),
+            due.as_ref(),
+            "the library's fault {fault} differs"
+        );
+        out.fill(0);
+        assert_eq!(fast::circuit(text, fault, &mut out), Ok(()));
+        assert_eq!(Ok(out), due, "the reference's fault {fault} differs");
+    }
+    faults
 }

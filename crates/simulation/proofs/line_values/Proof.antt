@@ -7,7 +7,7 @@ use lib.ListN.{length, take, getD, set}
 use Rattle.netlist.specs.Circuits.{netlistOf, noGate}
 use Rattle.simulation.specs.Rows.{inputValues, gatesNext, lineValues}
 use Rattle.simulation.specs.Steps.{padded}
-use Rattle.simulation.proofs.Padding.{length-mapped}
+use Rattle.integer.proofs.Tabs.{length-mapped}
 use Rattle.simulation.proofs.LineValues.{length-inputs, gateShown, gate-turn}
 use Rattle.simulation.proofs.line_values.Statement.{statement}
 use Rattle.simulation.proofs.line_values.Tie as tie

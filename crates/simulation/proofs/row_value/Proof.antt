@@ -12,7 +12,7 @@ use Rattle.integer.specs.Sum.{sumTo}
 use Rattle.integer.proofs.Machine.{reads as read-back, add-fits, add-is}
 use Rattle.netlist.specs.Circuits.{noOutput}
 use Rattle.simulation.specs.Rows.{reads, weighed}
-use Rattle.simulation.proofs.Padding.{length-mapped}
+use Rattle.integer.proofs.Tabs.{length-mapped}
 use Rattle.simulation.proofs.RowValues.{readTerm, sum-room, sum-more, sum-small, row-of}
 use Rattle.simulation.proofs.row_value.Statement.{statement}
 use Rattle.simulation.proofs.row_value.Tie as tie

@@ -8,9 +8,10 @@ use lib.ListN.{length, drop, length-set}
 use mir.Syntax.{w32}
 use mir.ValLaws.{toZ-ofZ}
 use Rattle.integer.specs.Tab.{tab}
+use Rattle.integer.proofs.Tabs.{write-turn}
 use Rattle.netlist.specs.Circuits.{netlistOf}
 use Rattle.simulation.specs.Rows.{rowValue}
-use Rattle.simulation.proofs.RowValues.{rows-few, row-turn, rows-done}
+use Rattle.simulation.proofs.RowValues.{rows-few, rows-done}
 use Rattle.simulation.proofs.rows.Statement.{statement}
 use Rattle.simulation.proofs.rows.Tie as tie
 
@@ -48,7 +49,7 @@ loop-again c =
     let a = l .before .args in (
       search needs,
       length-set (l .loop .out) (l .loop .x) _ ∙ l .loop .inv .1,
-      row-turn (netlistOf (a .c)) (a .f) (l .loop .x) (a .out .now) (omega arith) (l .loop .inv .2)
+      write-turn (a .out .now) (l .loop .out) (rowValue (netlistOf (a .c)) (a .f)) (l .loop .x) _ (omega arith) (l .loop .inv .2)
           (toZ-ofZ w32 (c .row-value .result) (record { sfits = c .row-value .ok }) ∙ c .row-value .ensures),
     )
 

@@ -8,7 +8,7 @@ use native.Mathlib.Omega.{arith}
 use lib.Dec.{lit≤}
 use lib.IntN.{ℤ}
 use lib.ListN.{length}
-use Rattle.simulation.proofs.Padding.{length-mapped}
+use Rattle.integer.proofs.Tabs.{length-mapped}
 use Rattle.netlist.specs.Circuits.{netlistOf}
 use Rattle.simulation.specs.Rows.{rowsOf}
 use Rattle.netlist.specs.declared.Fault.{Fault}

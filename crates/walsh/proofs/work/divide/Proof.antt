@@ -5,7 +5,7 @@ use mathlib.Core.List.{_++_}
 use Prim.Native.Nat.{ℕ, _-_, _≤_, _<_}
 use lib.IntN.{ℤ, natAbs}
 use lib.ListN.{length, drop, length-set}
-use Rattle.walsh.proofs.Copies.{write-turn}
+use Rattle.integer.proofs.Tabs.{write-turn}
 use Rattle.walsh.proofs.Quotients.{quot-needs, quot-kept, length-quotients, nth-quotients}
 use Rattle.walsh.specs.Lists.{quotientOf, quotientAt, quotientsOf}
 use mir.Syntax.{w32}

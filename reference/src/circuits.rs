@@ -1,0 +1,481 @@
+//! Random circuit texts of every size, and ways to damage them.
+
+use crate::netlist::{KINDS, LINE_LIMIT};
+use crate::random::Random;
+
+/// The numbers of a text's first line.
+#[derive(Clone, Copy, Debug, PartialEq, Eq)]
+pub struct Sizes {
+    pub inputs: usize,
+    pub gates: usize,
+    pub outputs: usize,
+    pub faults: usize,
+    pub cap: usize,
+}
+
+impl Sizes {
+    pub const LARGEST: Sizes = Sizes {
+        inputs: 8,
+        gates: 48,
+        outputs: 4,
+        faults: 32,
+        cap: 4,
+    };
+
+    pub fn draw(random: &mut Random) -> Sizes {
+        Sizes {
+            inputs: 1 + random.below(8),
+            gates: random.below(49),
+            outputs: 1 + random.below(4),
+            faults: 1 + random.below(32),
+            cap: 1 + random.below(4),
+        }
+    }
+}
+
+/// A text as lines of fields, so that each field can be found and moved.
+#[derive(Clone, Debug)]
+pub struct Draft {
+    pub sizes: Sizes,
+    pub lines: Vec<Vec<String>>,
+}
+
+impl Draft {
+    /// A good circuit: every rule of the text is kept.
+    pub fn draw(random: &mut Random, sizes: Sizes) -> Draft {
+        let header = [
+            sizes.inputs,
+            sizes.gates,
+            sizes.outputs,
+            sizes.faults,
+            sizes.cap,
+        ];
+        let mut lines = vec![fields("circuit", &header)];
+        let last = sizes.inputs + sizes.gates;
+        for own in sizes.inputs + 1..=last {
+            let kind = random.pick(&KINDS).0;
+            let a = line_below(random, own);
+            let b = match kind {
+                "not" => 0,
+                _ => line_below(random, own),
+            };
+            lines.push(vec![
+                "gate".into(),
+                kind.into(),
+                a.to_string(),
+                b.to_string(),
+            ]);
+        }
+        let mut outputs = Vec::new();
+        for _ in 0..sizes.outputs {
+            let line = match outputs.last() {
+                Some(&before) if random.once_in(5) => before,
+                _ => line_below(random, last + 1),
+            };
+            outputs.push(line);
+            lines.push(fields("output", &[line, 1 + random.below(15)]));
+        }
+        for _ in 0..sizes.faults {
+            let stuck = stuck_lines(random, sizes, &outputs);
+            let mut numbers = Vec::new();
+            for line in stuck {
+                numbers.extend([line, random.below(2)]);
+            }
+            lines.push(fields("fault", &numbers));
+        }
+        Draft { sizes, lines }
+    }
+
+    pub fn text(&self) -> Vec<u8> {
+        let mut text = String::new();
+        for line in &self.lines {
+            text += &line.join(",");
+            text += "\n";
+        }
+        text.into_bytes()
+    }
+
+    /// The first field of a line that is a number.
+    fn first_number(&self, line: usize) -> usize {
+        match self.lines[line][0].as_str() {
+            "gate" => 2,
+            _ => 1,
+        }
+    }
+
+    /// Line and field of a number, each line being as likely.
+    pub fn draw_number(&self, random: &mut Random) -> (usize, usize) {
+        let line = random.below(self.lines.len());
+        let first = self.first_number(line);
+        let count = self.lines[line].len() - first;
+        (line, first + random.below(count))
+    }
+
+    /// Every line and field that is a number.
+    pub fn numbers(&self) -> Vec<(usize, usize)> {
+        (0..self.lines.len())
+            .flat_map(|line| {
+                (self.first_number(line)..self.lines[line].len()).map(move |field| (line, field))
+            })
+            .collect()
+    }
+
+    /// The range of a number as the paper gives it.
+    fn range(&self, line: usize, field: usize) -> (usize, usize) {
+        match (self.lines[line][0].as_str(), field) {
+            ("circuit", 1) => (1, 8),
+            ("circuit", 2) => (0, 48),
+            ("circuit", 4) => (1, 32),
+            ("circuit", _) => (1, 4),
+            ("gate", 3) if self.lines[line][1] == "not" => (0, 0),
+            ("output", 2) => (1, 15),
+            ("fault", 2 | 4 | 6) => (0, 1),
+            _ => (1, LINE_LIMIT),
+        }
+    }
+
+    /// The first line of the circuit that this line of the text may not name.
+    fn bound(&self, line: usize) -> usize {
+        match self.lines[line][0].as_str() {
+            "gate" => self.sizes.inputs + line,
+            _ => self.sizes.inputs + self.sizes.gates + 1,
+        }
+    }
+
+    /// Moves a number to an end of its range or past it, to an end of what
+    /// this circuit has, or spoils how it is written.
+    fn move_number(&mut self, random: &mut Random, line: usize, field: usize) {
+        let (low, high) = self.range(line, field);
+        let bound = self.bound(line);
+        let number = self.lines[line][field].clone();
+        let before = match field.checked_sub(2) {
+            // In a fault it is the line, or the value, of the pair before.
+            Some(before) => self.lines[line][before].clone(),
+            None => number.clone(),
+        };
+        self.lines[line][field] = match random.below(20) {
+            0 | 1 => low.checked_sub(1).map_or("-1".into(), |n| n.to_string()),
+            2 => low.to_string(),
+            3 => high.to_string(),
+            4 | 5 => (high + 1).to_string(),
+            6 => (bound - 1).to_string(),
+            7 | 8 => bound.to_string(),
+            9 => random.below(10_000).to_string(),
+            10 => format!("0{number}"),
+            11 => random.pick(&["10000", "00001", "65537", "99999"]).into(),
+            12 => String::new(),
+            13 => random.pick(&["+1", "-0", " 1", "1 ", "1.", "0x1"]).into(),
+            14 => format!("{number}\r"),
+            15 => random.pick(&["9999", "256", "257", "0"]).into(),
+            16 => random.below(61).to_string(),
+            _ => before,
+        };
+    }
+}
+
+fn fields(word: &str, numbers: &[usize]) -> Vec<String> {
+    let mut fields = vec![word.to_string()];
+    fields.extend(numbers.iter().map(usize::to_string));
+    fields
+}
+
+/// A line below `bound`, often one of the last, so that circuits go deep.
+fn line_below(random: &mut Random, bound: usize) -> usize {
+    match random.below(3) {
+        0 => 1 + random.below(bound - 1),
+        _ => bound - 1 - random.below((bound - 1).min(6)),
+    }
+}
+
+/// One to three rising lines: inputs, outputs and any.
+fn stuck_lines(random: &mut Random, sizes: Sizes, outputs: &[usize]) -> Vec<usize> {
+    let last = sizes.inputs + sizes.gates;
+    let count = 1 + random.below(last.min(3));
+    let mut stuck = Vec::new();
+    while stuck.len() < count {
+        let line = match random.below(4) {
+            0 => 1 + random.below(sizes.inputs),
+            1 => random.pick(outputs),
+            _ => 1 + random.below(last),
+        };
+        if !stuck.contains(&line) {
+            stuck.push(line);
+        }
+    }
+    stuck.sort_unstable();
+    stuck
+}
+
+/// Any byte, or one that the format uses or nearly uses.
+fn draw_byte(random: &mut Random) -> u8 {
+    match random.below(4) {
+        0 => random.below(256) as u8,
+        1 => random.pick(b",\n"),
+        2 => random.pick(b"0123456789"),
+        _ => random.pick(b"- \r\t;.+\0acdefgilnoprtux"),
+    }
+}
+
+/// A way to damage a text; now and then the text stays good.
+pub struct Damage {
+    pub name: &'static str,
+    pub apply: fn(&mut Random, &Draft) -> Vec<u8>,
+}
+
+pub const DAMAGES: [Damage; 16] = [
+    Damage {
+        name: "a byte changed",
+        apply: |random, draft| {
+            let mut text = draft.text();
+            let at = random.below(text.len());
+            text[at] = draw_byte(random);
+            text
+        },
+    },
+    Damage {
+        name: "a byte removed",
+        apply: |random, draft| {
+            let mut text = draft.text();
+            text.remove(random.below(text.len()));
+            text
+        },
+    },
+    Damage {
+        name: "a byte inserted",
+        apply: |random, draft| {
+            let mut text = draft.text();
+            let at = random.below(text.len() + 1);
+            text.insert(at, draw_byte(random));
+            text
+        },
+    },
+    Damage {
+        name: "a line dropped",
+        apply: |random, draft| {
+            let mut draft = draft.clone();
+            draft.lines.remove(random.below(draft.lines.len()));
+            draft.text()
+        },
+    },
+    Damage {
+        name: "a line doubled",
+        apply: |random, draft| {
+            let mut draft = draft.clone();
+            let at = random.below(draft.lines.len());
+            draft.lines.insert(at, draft.lines[at].clone());
+            draft.text()
+        },
+    },
+    Damage {
+        name: "a line swapped with the next",
+        apply: |random, draft| {
+            let mut draft = draft.clone();
+            let at = random.below(draft.lines.len() - 1);
+            draft.lines.swap(at, at + 1);
+            draft.text()
+        },
+    },
+    Damage {
+        name: "a number moved",
+        apply: |random, draft| {
+            let mut draft = draft.clone();
+            let (line, field) = draft.draw_number(random);
+            draft.move_number(random, line, field);
+            draft.text()
+        },
+    },
+    Damage {
+        name: "a size moved",
+        apply: |random, draft| {
+            let mut draft = draft.clone();
+            let field = 1 + random.below(5);
+            let size: usize = draft.lines[0][field].parse().expect("a size");
+            draft.lines[0][field] = match random.below(3) {
+                0 => (size + 1).to_string(),
+                1 => size.saturating_sub(1).to_string(),
+                _ => random.below(50).to_string(),
+            };
+            draft.text()
+        },
+    },
+    Damage {
+        name: "two numbers of a line moved",
+        apply: |random, draft| {
+            let mut draft = draft.clone();
+            let (line, field) = draft.draw_number(random);
+            draft.move_number(random, line, field);
+            let first = draft.first_number(line);
+            let other = first + random.below(draft.lines[line].len() - first);
+            draft.move_number(random, line, other);
+            draft.text()
+        },
+    },
+    Damage {
+        name: "numbers of two lines moved",
+        apply: |random, draft| {
+            let mut draft = draft.clone();
+            for _ in 0..2 {
+                let (line, field) = draft.draw_number(random);
+                draft.move_number(random, line, field);
+            }
+            draft.text()
+        },
+    },
+    Damage {
+        name: "a field added",
+        apply: |random, draft| {
+            let mut draft = draft.clone();
+            let line = random.below(draft.lines.len());
+            let line = &mut draft.lines[line];
+            let at = random.below(line.len() + 1);
+            line.insert(at, random.pick(&["", "0", "1", "2", "gate", "x"]).into());
+            draft.text()
+        },
+    },
+    Damage {
+        name: "a field removed",
+        apply: |random, draft| {
+            let mut draft = draft.clone();
+            let line = random.below(draft.lines.len());
+            let line = &mut draft.lines[line];
+            line.remove(random.below(line.len()));
+            draft.text()
+        },
+    },
+    Damage {
+        name: "a pair added to a fault",
+        apply: |random, draft| {
+            let mut draft = draft.clone();
+            let first = draft.lines.len() - draft.sizes.faults;
+            let line = first + random.below(draft.sizes.faults);
+            let named = 1 + random.below(draft.bound(line));
+            let value = random.below(2);
+            draft.lines[line].extend([named.to_string(), value.to_string()]);
+            draft.text()
+        },
+    },
+    Damage {
+        name: "the last line end removed",
+        apply: |_, draft| {
+            let mut text = draft.text();
+            text.pop();
+            text
+        },
+    },
+    Damage {
+        name: "bytes appended",
+        apply: |random, draft| {
+            let mut text = draft.text();
+            for _ in 0..1 + random.below(12) {
+                text.push(draw_byte(random));
+            }
+            text
+        },
+    },
+    Damage {
+        name: "an empty line put in",
+        apply: |random, draft| {
+            let mut draft = draft.clone();
+            let at = random.below(draft.lines.len() + 1);
+            draft.lines.insert(at, Vec::new());
+            draft.text()
+        },
+    },
+];
+
+#[cfg(test)]
+mod tests {
+    use super::*;
+    use crate::netlist::{parse, Netlist};
+
+    fn drawn(random: &mut Random, sizes: Sizes) -> Netlist {
+        let text = Draft::draw(random, sizes).text();
+        parse(&text).unwrap_or_else(|refusal| panic!("{refusal:?}: {}", text.escape_ascii()))
+    }
+
+    #[test]
+    fn every_size_is_drawn_and_read() {
+        let mut random = Random::new(4);
+        let mut seen = [[false; 50]; 5];
+        for _ in 0..2000 {
+            let sizes = Sizes::draw(&mut random);
+            let netlist = drawn(&mut random, sizes);
+            let read = [
+                netlist.inputs,
+                netlist.gates.len(),
+                netlist.outputs.len(),
+                netlist.faults.len(),
+                netlist.cap,
+            ];
+            let due = [
+                sizes.inputs,
+                sizes.gates,
+                sizes.outputs,
+                sizes.faults,
+                sizes.cap,
+            ];
+            assert_eq!(read, due);
+            (0..5).for_each(|which| seen[which][read[which]] = true);
+        }
+        for (which, (low, high)) in [(1, 8), (0, 48), (1, 4), (1, 32), (1, 4)]
+            .into_iter()
+            .enumerate()
+        {
+            assert!(
+                (0..50).all(|size| seen[which][size] == (low..=high).contains(&size)),
+                "size {which} of the first line: {:?}",
+                seen[which]
+            );
+        }
+    }
+
+    #[test]
+    fn kinds_weights_outputs_and_faults_are_drawn() {
+        let mut random = Random::new(5);
+        let (mut kinds, mut weights) = (Vec::new(), Vec::new());
+        let (mut twice, mut counts, mut mixed) = (0, [0; 4], 0);
+        for _ in 0..200 {
+            let netlist = drawn(&mut random, Sizes::LARGEST);
+            kinds.extend(netlist.gates.iter().map(|gate| gate.kind));
+            weights.extend(netlist.outputs.iter().map(|output| output.weight));
+            let outputs: Vec<usize> = netlist.outputs.iter().map(|output| output.line).collect();
+            twice += usize::from((1..4).any(|at| outputs[..at].contains(&outputs[at])));
+            for fault in &netlist.faults {
+                counts[fault.len()] += 1;
+                let is_output = |line| outputs.contains(&line);
+                let input = fault.iter().any(|stuck| stuck.line <= 8);
+                let output = fault
+                    .iter()
+                    .any(|stuck| stuck.line > 8 && is_output(stuck.line));
+                let inner = fault
+                    .iter()
+                    .any(|stuck| stuck.line > 8 && !is_output(stuck.line));
+                mixed += usize::from(input && output && inner);
+            }
+        }
+        for (name, kind) in KINDS {
+            assert!(kinds.contains(&kind), "{name} was never drawn");
+        }
+        for weight in 1..=15 {
+            assert!(weights.contains(&weight), "weight {weight} never came");
+        }
+        assert!(twice > 50, "a line was an output twice {twice} times only");
+        assert!(counts[1..].iter().all(|&count| count > 1000), "{counts:?}");
+        assert!(mixed > 200, "input, inner line and output: {mixed}");
+    }
+
+    #[test]
+    fn damages_change_the_text() {
+        let mut random = Random::new(6);
+        for damage in &DAMAGES {
+            let mut changed = 0;
+            for _ in 0..40 {
+                let sizes = Sizes::draw(&mut random);
+                let draft = Draft::draw(&mut random, sizes);
+                let text = (damage.apply)(&mut random, &draft);
+                changed += usize::from(text != draft.text());
+            }
+            assert!(changed > 20, "{}: {changed} of 40", damage.name);
+        }
+    }
+}
