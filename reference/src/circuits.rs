@@ -1,7 +1,50 @@
-//! Random circuit texts of every size, and ways to damage them.
+//! Circuit texts: the paper's, random ones of every size, and ways to damage
+//! them.
 
 use crate::netlist::{KINDS, LINE_LIMIT};
 use crate::random::Random;
+
+/// The paper's listing.
+pub const LISTING: &str = "circuit,3,4,1,2,2\n\
+    gate,not,2,0\n\
+    gate,and,1,2\n\
+    gate,and,3,4\n\
+    gate,or,5,6\n\
+    output,7,1\n\
+    fault,2,0\n\
+    fault,2,1\n";
+
+/// x1x2 or x3, an input stuck.
+pub const STUCK_INPUTS: &str = "circuit,3,2,1,4,1\n\
+    gate,and,1,2\ngate,or,3,4\noutput,5,1\n\
+    fault,1,0\nfault,1,1\nfault,3,0\nfault,3,1\n";
+
+/// Example 5.8, both x1 and x2 stuck.
+pub const TWO_STUCK_INPUTS: &str = "circuit,4,5,1,4,1\n\
+    gate,and,2,3\ngate,and,1,5\ngate,not,5,0\ngate,and,4,7\ngate,or,6,8\noutput,9,1\n\
+    fault,1,0,2,0\nfault,1,1,2,0\nfault,1,0,2,1\nfault,1,1,2,1\n";
+
+/// The same function; x2x3 of the first product has a gate of its own, line 5,
+/// which is stuck.
+pub const STUCK_INNER_LINE: &str = "circuit,4,6,1,2,1\n\
+    gate,and,2,3\ngate,and,2,3\ngate,and,1,5\ngate,not,6,0\ngate,and,4,8\ngate,or,7,9\n\
+    output,10,1\nfault,5,0\nfault,5,1\n";
+
+/// A fault that changes no row.
+pub const SILENT_FAULT: &str = "circuit,2,2,1,1,1\n\
+    gate,and,1,2\ngate,or,1,3\noutput,4,1\nfault,3,0\n";
+
+/// Two faults that no single label covers.
+pub const TWO_OUTPUTS: &str = "circuit,2,4,2,2,1\n\
+    gate,xor,1,1\ngate,xor,1,1\ngate,xor,1,3\ngate,xor,2,4\n\
+    output,5,1\noutput,6,1\nfault,3,1\nfault,4,1\n";
+
+/// The text with its line `place` replaced.
+pub fn with_line(text: &str, place: usize, line: &str) -> Vec<u8> {
+    let mut lines: Vec<&str> = text.lines().collect();
+    lines[place - 1] = line;
+    (lines.join("\n") + "\n").into_bytes()
+}
 
 /// The numbers of a text's first line.
 #[derive(Clone, Copy, Debug, PartialEq, Eq)]
@@ -31,6 +74,11 @@ impl Sizes {
             cap: 1 + random.below(4),
         }
     }
+
+    /// In the order of the first line.
+    fn numbers(&self) -> [usize; 5] {
+        [self.inputs, self.gates, self.outputs, self.faults, self.cap]
+    }
 }
 
 /// A text as lines of fields, so that each field can be found and moved.
@@ -43,14 +91,7 @@ pub struct Draft {
 impl Draft {
     /// A good circuit: every rule of the text is kept.
     pub fn draw(random: &mut Random, sizes: Sizes) -> Draft {
-        let header = [
-            sizes.inputs,
-            sizes.gates,
-            sizes.outputs,
-            sizes.faults,
-            sizes.cap,
-        ];
-        let mut lines = vec![fields("circuit", &header)];
+        let mut lines = vec![fields("circuit", &sizes.numbers())];
         let last = sizes.inputs + sizes.gates;
         for own in sizes.inputs + 1..=last {
             let kind = random.pick(&KINDS).0;
@@ -106,9 +147,13 @@ impl Draft {
     /// Line and field of a number, each line being as likely.
     pub fn draw_number(&self, random: &mut Random) -> (usize, usize) {
         let line = random.below(self.lines.len());
+        (line, self.draw_number_of(random, line))
+    }
+
+    /// A field of the line that is a number.
+    fn draw_number_of(&self, random: &mut Random, line: usize) -> usize {
         let first = self.first_number(line);
-        let count = self.lines[line].len() - first;
-        (line, first + random.below(count))
+        first + random.below(self.lines[line].len() - first)
     }
 
     /// Every line and field that is a number.
@@ -304,8 +349,7 @@ pub const DAMAGES: [Damage; 16] = [
             let mut draft = draft.clone();
             let (line, field) = draft.draw_number(random);
             draft.move_number(random, line, field);
-            let first = draft.first_number(line);
-            let other = first + random.below(draft.lines[line].len() - first);
+            let other = draft.draw_number_of(random, line);
             draft.move_number(random, line, other);
             draft.text()
         },
@@ -407,14 +451,7 @@ mod tests {
                 netlist.faults.len(),
                 netlist.cap,
             ];
-            let due = [
-                sizes.inputs,
-                sizes.gates,
-                sizes.outputs,
-                sizes.faults,
-                sizes.cap,
-            ];
-            assert_eq!(read, due);
+            assert_eq!(read, sizes.numbers());
             (0..5).for_each(|which| seen[which][read[which]] = true);
         }
         for (which, (low, high)) in [(1, 8), (0, 48), (1, 4), (1, 32), (1, 4)]

@@ -33,7 +33,7 @@ pub fn circuit(text: &[u8], fault: u32, out: &mut [i32]) -> Result<(), Refusal> 
 mod tests {
     use super::*;
     use crate::circuits::{Draft, Sizes};
-    use crate::lent::Lent;
+    use crate::outcomes::{answer, compare};
     use crate::random::Random;
     use crate::walsh;
 
@@ -46,12 +46,11 @@ mod tests {
                 for last in [rows[rows.len() - 1], ROW_LIMIT + 1] {
                     let end = rows.len() - 1;
                     rows[end] = last;
-                    let mut lent = Lent::new(room, || random.noise());
-                    let found = spectrum(&rows, lent.part());
                     let due = walsh::spectrum(&rows, room);
-                    assert_eq!(found, due.clone().map(|_| ()), "{inputs} inputs");
-                    let written = due.unwrap_or_default();
-                    lent.assert_holds(&written, format_args!("{inputs} inputs, room {room}"));
+                    let case = format_args!("{inputs} inputs");
+                    compare(&mut random, case, room, &due, |out| {
+                        answer(&spectrum(&rows, out))
+                    });
                     rows[end] = 0;
                 }
             }
@@ -73,12 +72,11 @@ mod tests {
             }
             let room = (1 << sizes.inputs) - 1 + random.below(4);
             for fault in 0..=sizes.faults as u32 + 1 {
-                let mut lent = Lent::new(room, || random.noise());
-                let found = circuit(&text, fault, lent.part());
                 let due = netlist::circuit(&text, fault, room);
-                assert_eq!(found, due.clone().map(|_| ()), "fault {fault}, {sizes:?}");
-                let written = due.unwrap_or_default();
-                lent.assert_holds(&written, format_args!("fault {fault}, {sizes:?}"));
+                let case = format_args!("fault {fault}, {sizes:?}");
+                compare(&mut random, case, room, &due, |out| {
+                    answer(&circuit(&text, fault, out))
+                });
             }
         }
     }

@@ -6,5 +6,6 @@ pub mod fast;
 pub mod lent;
 pub mod library;
 pub mod netlist;
+pub mod outcomes;
 pub mod random;
 pub mod walsh;

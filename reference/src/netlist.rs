@@ -335,15 +335,11 @@ pub fn field(text: &[u8], number: usize) -> (usize, usize) {
 #[cfg(test)]
 mod tests {
     use super::*;
-
-    const LISTING: &str = "circuit,3,4,1,2,2\n\
-        gate,not,2,0\n\
-        gate,and,1,2\n\
-        gate,and,3,4\n\
-        gate,or,5,6\n\
-        output,7,1\n\
-        fault,2,0\n\
-        fault,2,1\n";
+    use crate::circuits::{
+        with_line, LISTING, SILENT_FAULT, STUCK_INNER_LINE, STUCK_INPUTS, TWO_OUTPUTS,
+        TWO_STUCK_INPUTS,
+    };
+    use crate::outcomes::answer;
 
     fn spectrum_of(text: &str, fault: u32) -> Vec<i32> {
         circuit(text.as_bytes(), fault, 256)
@@ -352,12 +348,8 @@ mod tests {
 
     /// What the listing gives with its line `place` replaced.
     fn refused(place: usize, line: &str) -> (u32, usize) {
-        let mut lines: Vec<&str> = LISTING.lines().collect();
-        lines[place - 1] = line;
-        match parse((lines.join("\n") + "\n").as_bytes()) {
-            Ok(_) => (0, 0),
-            Err(refusal) => (refusal.number, refusal.place),
-        }
+        let found = answer(&parse(&with_line(LISTING, place, line)));
+        (found.number, found.place)
     }
 
     #[test]
@@ -373,44 +365,40 @@ mod tests {
 
     #[test]
     fn stuck_inputs_of_x1x2_or_x3() {
-        let text = "circuit,3,2,1,4,1\ngate,and,1,2\ngate,or,3,4\noutput,5,1\n\
-            fault,1,0\nfault,1,1\nfault,3,0\nfault,3,1\n";
         for (fault, sum) in [(0, 5), (1, 4), (2, 6), (3, 2), (4, 8)] {
-            assert_eq!(spectrum_of(text, fault)[0], sum, "fault {fault}");
+            assert_eq!(spectrum_of(STUCK_INPUTS, fault)[0], sum, "fault {fault}");
         }
     }
 
     #[test]
     fn two_stuck_inputs_of_example_5_8() {
-        let text = "circuit,4,5,1,4,1\n\
-            gate,and,2,3\ngate,and,1,5\ngate,not,5,0\ngate,and,4,7\ngate,or,6,8\noutput,9,1\n\
-            fault,1,0,2,0\nfault,1,1,2,0\nfault,1,0,2,1\nfault,1,1,2,1\n";
         for (fault, sum) in [(0, 8), (1, 8), (2, 8), (3, 4), (4, 12)] {
-            assert_eq!(spectrum_of(text, fault)[0], sum, "fault {fault}");
+            assert_eq!(
+                spectrum_of(TWO_STUCK_INPUTS, fault)[0],
+                sum,
+                "fault {fault}"
+            );
         }
     }
 
     #[test]
     fn stuck_inner_line_of_the_first_product() {
-        let text = "circuit,4,6,1,2,1\n\
-            gate,and,2,3\ngate,and,2,3\ngate,and,1,5\ngate,not,6,0\ngate,and,4,8\ngate,or,7,9\n\
-            output,10,1\nfault,5,0\nfault,5,1\n";
         for (fault, sum) in [(0, 8), (1, 6), (2, 11)] {
-            assert_eq!(spectrum_of(text, fault)[0], sum, "fault {fault}");
+            assert_eq!(
+                spectrum_of(STUCK_INNER_LINE, fault)[0],
+                sum,
+                "fault {fault}"
+            );
         }
     }
 
     #[test]
     fn silent_fault_and_two_outputs() {
-        let text = "circuit,2,2,1,1,1\ngate,and,1,2\ngate,or,1,3\noutput,4,1\nfault,3,0\n";
-        assert_eq!(spectrum_of(text, 0), [2, -2, 0, 0]);
-        assert_eq!(spectrum_of(text, 1), [2, -2, 0, 0]);
-        let text = "circuit,2,4,2,2,1\n\
-            gate,xor,1,1\ngate,xor,1,1\ngate,xor,1,3\ngate,xor,2,4\n\
-            output,5,1\noutput,6,1\nfault,3,1\nfault,4,1\n";
-        assert_eq!(spectrum_of(text, 0), [4, -2, -2, 0]);
-        assert_eq!(spectrum_of(text, 1), [4, 2, -2, 0]);
-        assert_eq!(spectrum_of(text, 2), [4, -2, 2, 0]);
+        assert_eq!(spectrum_of(SILENT_FAULT, 0), [2, -2, 0, 0]);
+        assert_eq!(spectrum_of(SILENT_FAULT, 1), [2, -2, 0, 0]);
+        assert_eq!(spectrum_of(TWO_OUTPUTS, 0), [4, -2, -2, 0]);
+        assert_eq!(spectrum_of(TWO_OUTPUTS, 1), [4, 2, -2, 0]);
+        assert_eq!(spectrum_of(TWO_OUTPUTS, 2), [4, -2, 2, 0]);
     }
 
     #[test]

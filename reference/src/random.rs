@@ -48,6 +48,18 @@ impl Random {
     pub fn list(&mut self, length: usize, limit: i32) -> Vec<i32> {
         (0..length).map(|_| self.between(-limit, limit)).collect()
     }
+
+    /// A buffer's length: exact, longer or too short for `due` numbers.
+    pub fn room(&mut self, due: usize) -> usize {
+        match self.below(8) {
+            0 => self.below(due),
+            1 => due - 1,
+            2 => due + 1,
+            3 => due + self.below(50),
+            4 => 2 * due,
+            _ => due,
+        }
+    }
 }
 
 #[cfg(test)]

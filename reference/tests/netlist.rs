@@ -2,25 +2,19 @@
 //! number, place and the whole lent buffer, with noise in and around it, at
 //! every comparison. The text stands between bytes that would carry it on.
 
-use reference::circuits::{Draft, Sizes, DAMAGES};
-use reference::lent::Lent;
-use reference::library::{self, Answer, Span};
+use reference::circuits::{
+    with_line, Draft, Sizes, DAMAGES, LISTING, SILENT_FAULT, STUCK_INNER_LINE, STUCK_INPUTS,
+    TWO_OUTPUTS, TWO_STUCK_INPUTS,
+};
+use reference::library::{self, Span};
 use reference::netlist::{self, CIRCUIT_LIMIT, TEXT_LIMIT};
+use reference::outcomes::{compare, written, Outcomes};
 use reference::random::Random;
 use reference::walsh;
 use std::collections::BTreeSet;
 use std::fmt;
 
 const SEED: u64 = 0x4e45_544c_4953_5400;
-
-const LISTING: &str = "circuit,3,4,1,2,2\n\
-    gate,not,2,0\n\
-    gate,and,1,2\n\
-    gate,and,3,4\n\
-    gate,or,5,6\n\
-    output,7,1\n\
-    fault,2,0\n\
-    fault,2,1\n";
 
 /// Two outputs on one line, and faults of two and three lines.
 const PAIRS: &str = "circuit,2,2,2,2,1\n\
@@ -60,11 +54,25 @@ impl fmt::Display for Shown<'_> {
     }
 }
 
+/// Lends the text between `before` and `after` to `door`, and asserts that
+/// nothing was written there.
+fn lend_text<T>(
+    case: fmt::Arguments,
+    [before, text, after]: [&[u8]; 3],
+    door: impl FnOnce(&[u8]) -> T,
+) -> T {
+    let around = [before, text, after].concat();
+    let found = door(&around[before.len()..before.len() + text.len()]);
+    let again = [before, text, after].concat();
+    assert!(around == again, "{case}: the text was written to");
+    found
+}
+
 /// Both implementations, the noise for lent buffers, how often each outcome
-/// came (index 0: done), and at which lines the text was refused.
+/// came, and at which lines the text was refused.
 struct Both {
     random: Random,
-    seen: [usize; 15],
+    outcomes: Outcomes,
     places: BTreeSet<usize>,
 }
 
@@ -72,51 +80,39 @@ impl Both {
     fn new(subject: u64) -> Self {
         Both {
             random: Random::new(SEED + subject),
-            seen: [0; 15],
+            outcomes: Outcomes::default(),
             places: BTreeSet::new(),
         }
     }
 
-    /// Lends the text between `before` and `after`, and a buffer of `room`
+    /// Lends the text with what stands around it, and a buffer of `room`
     /// numbers, and holds all that comes back against what is due.
-    fn settle(
-        &mut self,
-        [before, text, after]: [&[u8]; 3],
-        fault: u32,
-        room: usize,
-    ) -> (u32, usize) {
-        let around = [before, text, after].concat();
-        let mut lent = Lent::new(room, || self.random.noise());
-        let part = &around[before.len()..before.len() + text.len()];
-        let answer = library::circuit(part, fault, lent.part());
-        let (number, place, written) = match netlist::circuit(text, fault, room) {
-            Ok(list) => (0, 0, list),
-            Err(refusal) => (refusal.number, refusal.place, Vec::new()),
-        };
-        let shown = Shown(text);
-        assert_eq!(
-            answer,
-            Answer { number, place },
-            "fault {fault}, room {room} of {shown}: left the library, right what is due"
-        );
-        lent.assert_holds(&written, format_args!("fault {fault} of {shown}"));
-        let again = [before, text, after].concat();
-        assert!(around == again, "fault {fault}: {shown} was written to");
+    fn settle(&mut self, texts: [&[u8]; 3], fault: u32, room: usize) -> (u32, usize) {
+        let case = format_args!("fault {fault} of {}", Shown(texts[1]));
+        let due = netlist::circuit(texts[1], fault, room);
+        let (number, place) = compare(&mut self.random, case, room, &due, |out| {
+            lend_text(case, texts, |text| library::circuit(text, fault, out))
+        });
         let limit = -CIRCUIT_LIMIT..=CIRCUIT_LIMIT;
         assert!(
-            written.iter().all(|number| limit.contains(number)),
-            "fault {fault} of {shown}: a coefficient is beyond the limit"
+            due.iter().flatten().all(|number| limit.contains(number)),
+            "{case}: a coefficient is beyond the limit"
         );
-        self.seen[number as usize] += 1;
+        self.outcomes.note(number);
         if place != 0 {
             self.places.insert(place);
         }
         (number, place)
     }
 
+    /// The text between what is drawn to stand before and after it.
+    fn surround<'a>(&mut self, text: &'a [u8]) -> [&'a [u8]; 3] {
+        [self.random.pick(&BEFORE), text, self.random.pick(&AFTER)]
+    }
+
     fn circuit(&mut self, text: &[u8], fault: u32, room: usize) -> (u32, usize) {
-        let (before, after) = (self.random.pick(&BEFORE), self.random.pick(&AFTER));
-        self.settle([before, text, after], fault, room)
+        let texts = self.surround(text);
+        self.settle(texts, fault, room)
     }
 
     /// Asserts what the text is refused by; (0, 0) where it is accepted.
@@ -131,32 +127,9 @@ impl Both {
         self.expect(&text, (number, if number == 0 { 0 } else { place }));
     }
 
-    /// Each listed outcome came at least so often, and no other came.
-    fn assert_seen(&self, least: &[(u32, usize)]) {
-        for number in 0..self.seen.len() as u32 {
-            let seen = self.seen[number as usize];
-            match least.iter().find(|entry| entry.0 == number) {
-                Some(&(_, count)) => assert!(seen >= count, "{number} came {seen} times only"),
-                None => assert_eq!(seen, 0, "{number} came, which this group excludes"),
-            }
-        }
-    }
-
     fn draft(&mut self) -> Draft {
         let sizes = Sizes::draw(&mut self.random);
         Draft::draw(&mut self.random, sizes)
-    }
-
-    /// A buffer's length: exact, longer or too short for `due` numbers.
-    fn room(&mut self, due: usize) -> usize {
-        match self.random.below(8) {
-            0 => self.random.below(due),
-            1 => due - 1,
-            2 => due + 1,
-            3 => due + self.random.below(50),
-            4 => 2 * due,
-            _ => due,
-        }
     }
 
     /// Every fault of a good circuit; gives how many change its rows.
@@ -175,36 +148,26 @@ impl Both {
     }
 
     fn field(&mut self, text: &[u8], number: usize) -> Span {
-        let (before, after) = (self.random.pick(&BEFORE), self.random.pick(&AFTER));
-        let around = [before, text, after].concat();
-        let part = &around[before.len()..before.len() + text.len()];
-        let found = library::field(part, number);
+        let case = format_args!("field {number} of {}", Shown(text));
+        let found = lend_text(case, self.surround(text), |text| {
+            library::field(text, number)
+        });
         let (start, length) = netlist::field(text, number);
         assert_eq!(
             found,
             Span { start, length },
-            "field {number} of {}: left the library, right what is due",
-            Shown(text)
+            "{case}: left the library, right what is due"
         );
-        let again = [before, text, after].concat();
-        assert!(around == again, "{} was written to", Shown(text));
         found
     }
 }
 
-/// The text with its line `place` replaced.
-fn with_line(text: &str, place: usize, line: &str) -> Vec<u8> {
-    let mut lines: Vec<&str> = text.lines().collect();
-    lines[place - 1] = line;
-    (lines.join("\n") + "\n").into_bytes()
-}
-
 /// The library's coefficients, without the second implementation.
 fn library_spectrum(text: &str, fault: u32, length: usize) -> Vec<i32> {
-    let mut out = vec![i32::MIN; length];
-    let answer = library::circuit(text.as_bytes(), fault, &mut out);
-    assert_eq!((answer.number, answer.place), (0, 0), "{text}");
-    out
+    let case = format_args!("fault {fault} of {text}");
+    written(case, length, |out| {
+        library::circuit(text.as_bytes(), fault, out)
+    })
 }
 
 // Good circuits.
@@ -217,38 +180,23 @@ fn examples_of_the_paper() {
     assert_eq!(library_spectrum(LISTING, 1, 8)[1], 0);
     assert_eq!(library_spectrum(LISTING, 2, 8)[1], -4);
 
-    let text = "circuit,3,2,1,4,1\ngate,and,1,2\ngate,or,3,4\noutput,5,1\n\
-        fault,1,0\nfault,1,1\nfault,3,0\nfault,3,1\n";
-    for (fault, sum) in [(0, 5), (1, 4), (2, 6), (3, 2), (4, 8)] {
-        assert_eq!(library_spectrum(text, fault, 8)[0], sum, "fault {fault}");
+    for (text, length, sums) in [
+        (STUCK_INPUTS, 8, &[5, 4, 6, 2, 8][..]),
+        (TWO_STUCK_INPUTS, 16, &[8, 8, 8, 4, 12]),
+        (STUCK_INNER_LINE, 16, &[8, 6, 11]),
+    ] {
+        for (fault, &sum) in (0..).zip(sums) {
+            let found = library_spectrum(text, fault, length);
+            assert_eq!(found[0], sum, "fault {fault} of {text}");
+        }
     }
 
-    let text = "circuit,4,5,1,4,1\n\
-        gate,and,2,3\ngate,and,1,5\ngate,not,5,0\ngate,and,4,7\ngate,or,6,8\noutput,9,1\n\
-        fault,1,0,2,0\nfault,1,1,2,0\nfault,1,0,2,1\nfault,1,1,2,1\n";
-    for (fault, sum) in [(0, 8), (1, 8), (2, 8), (3, 4), (4, 12)] {
-        assert_eq!(library_spectrum(text, fault, 16)[0], sum, "fault {fault}");
-    }
-
-    // x2x3 of the first product has a gate of its own, line 5.
-    let text = "circuit,4,6,1,2,1\n\
-        gate,and,2,3\ngate,and,2,3\ngate,and,1,5\ngate,not,6,0\ngate,and,4,8\ngate,or,7,9\n\
-        output,10,1\nfault,5,0\nfault,5,1\n";
-    for (fault, sum) in [(0, 8), (1, 6), (2, 11)] {
-        assert_eq!(library_spectrum(text, fault, 16)[0], sum, "fault {fault}");
-    }
-
-    // The silent fault, and the circuit that no single label covers.
-    let text = "circuit,2,2,1,1,1\ngate,and,1,2\ngate,or,1,3\noutput,4,1\nfault,3,0\n";
     for fault in [0, 1] {
-        assert_eq!(library_spectrum(text, fault, 4), [2, -2, 0, 0]);
+        assert_eq!(library_spectrum(SILENT_FAULT, fault, 4), [2, -2, 0, 0]);
     }
-    let text = "circuit,2,4,2,2,1\n\
-        gate,xor,1,1\ngate,xor,1,1\ngate,xor,1,3\ngate,xor,2,4\n\
-        output,5,1\noutput,6,1\nfault,3,1\nfault,4,1\n";
-    assert_eq!(library_spectrum(text, 0, 4), [4, -2, -2, 0]);
-    assert_eq!(library_spectrum(text, 1, 4), [4, 2, -2, 0]);
-    assert_eq!(library_spectrum(text, 2, 4), [4, -2, 2, 0]);
+    assert_eq!(library_spectrum(TWO_OUTPUTS, 0, 4), [4, -2, -2, 0]);
+    assert_eq!(library_spectrum(TWO_OUTPUTS, 1, 4), [4, 2, -2, 0]);
+    assert_eq!(library_spectrum(TWO_OUTPUTS, 2, 4), [4, -2, 2, 0]);
 }
 
 #[test]
@@ -301,7 +249,7 @@ fn each_input_as_an_output() {
             }
         }
     }
-    both.assert_seen(&[(0, 108), (12, 36)]);
+    both.outcomes.assert_seen(&[(0, 108), (12, 36)]);
 }
 
 #[test]
@@ -324,8 +272,8 @@ fn circuits_of_every_size() {
             }
         }
     }
-    both.assert_seen(&[(0, 24_000)]);
-    let silent = both.seen[0] - changing;
+    both.outcomes.assert_seen(&[(0, 24_000)]);
+    let silent = both.outcomes.seen(0) - changing;
     assert!(changing > 10_000, "faults that change rows: {changing}");
     assert!(silent > 1000, "silent faults and sound circuits: {silent}");
 }
@@ -338,7 +286,7 @@ fn circuits_of_the_largest_size() {
         let draft = Draft::draw(&mut both.random, Sizes::LARGEST);
         changing += both.every_fault(&draft);
     }
-    both.assert_seen(&[(0, 60 * 33)]);
+    both.outcomes.assert_seen(&[(0, 60 * 33)]);
     assert!(changing > 1000, "faults that change rows: {changing}");
 }
 
@@ -367,7 +315,7 @@ fn every_count_of_faults() {
             }
         }
     }
-    both.assert_seen(&[(0, 2000), (12, 4000)]);
+    both.outcomes.assert_seen(&[(0, 2000), (12, 4000)]);
 }
 
 #[test]
@@ -394,7 +342,7 @@ fn buffers_too_short_exact_and_longer() {
             }
         }
     }
-    both.assert_seen(&[(0, 700), (8, 500), (12, 500)]);
+    both.outcomes.assert_seen(&[(0, 700), (8, 500), (12, 500)]);
 }
 
 #[test]
@@ -440,7 +388,7 @@ fn inputs_inner_lines_and_outputs_stuck_at_once() {
         full += 1;
         telling += usize::from((2..=4).all(|fault| netlist.rows(fault) != netlist.rows(1)));
     }
-    both.assert_seen(&[(0, 2000)]);
+    both.outcomes.assert_seen(&[(0, 2000)]);
     assert!(full > 400, "three lines of three kinds: {full}");
     assert!(telling > 10, "faults in which every line tells: {telling}");
 }
@@ -471,7 +419,7 @@ fn stuck_lines_show_in_the_outputs() {
         assert_eq!(library_spectrum(&text, 0, 4), sound, "{fault}");
         both.circuit(text.as_bytes(), 1, 4);
     }
-    both.assert_seen(&[(0, 10)]);
+    both.outcomes.assert_seen(&[(0, 10)]);
 }
 
 #[test]
@@ -505,7 +453,7 @@ fn coefficients_at_their_limit() {
             both.circuit(text.as_bytes(), fault, 256);
         }
     }
-    both.assert_seen(&[(0, 7)]);
+    both.outcomes.assert_seen(&[(0, 7)]);
 }
 
 // Refused texts.
@@ -531,12 +479,12 @@ fn damaged_texts() {
         for (damage, refused) in DAMAGES.iter().zip(&mut refused) {
             let text = (damage.apply)(&mut both.random, &draft);
             let fault = both.random.below(draft.sizes.faults + 2) as u32;
-            let room = both.room(1 << draft.sizes.inputs);
+            let room = both.random.room(1 << draft.sizes.inputs);
             let (number, _) = both.circuit(&text, fault, room);
             *refused += usize::from((2..=7).contains(&number));
         }
     }
-    both.assert_seen(&[
+    both.outcomes.assert_seen(&[
         (0, 2000),
         (2, 20_000),
         (3, 3000),
@@ -582,7 +530,7 @@ fn every_number_in_every_place() {
             }
         }
     }
-    both.assert_seen(&[
+    both.outcomes.assert_seen(&[
         (0, 500),
         (2, 2000),
         (3, 5000),
@@ -635,7 +583,8 @@ fn ranges_at_their_ends() {
         };
         both.expect_line(7, &format!("fault,3,0,{number},1"), last);
     }
-    both.assert_seen(&[(0, 50), (2, 90), (3, 400), (4, 100), (5, 100), (6, 3)]);
+    both.outcomes
+        .assert_seen(&[(0, 50), (2, 90), (3, 400), (4, 100), (5, 100), (6, 3)]);
 }
 
 #[test]
@@ -770,7 +719,8 @@ fn each_sentence_on_the_text() {
         both.expect_line(7, line, number);
         both.expect_line(8, line, number);
     }
-    both.assert_seen(&[(0, 25), (2, 300), (3, 10), (4, 8), (5, 2), (6, 10), (7, 8)]);
+    both.outcomes
+        .assert_seen(&[(0, 25), (2, 300), (3, 10), (4, 8), (5, 2), (6, 10), (7, 8)]);
 }
 
 /// Bad lines for each line of the listing, with what they are refused by.
@@ -844,7 +794,8 @@ fn two_refusals_in_one_line() {
             both.expect_line(place, line, number);
         }
     }
-    both.assert_seen(&[(2, 40), (3, 30), (4, 12), (5, 10), (6, 6)]);
+    both.outcomes
+        .assert_seen(&[(2, 40), (3, 30), (4, 12), (5, 10), (6, 6)]);
 }
 
 #[test]
@@ -894,7 +845,7 @@ fn two_refusals_in_two_lines() {
         let due = (if room < 8 { 8 } else { 0 }, 0);
         assert_eq!(both.circuit(text, 2, room), due);
     }
-    both.assert_seen(&[
+    both.outcomes.assert_seen(&[
         (0, 1),
         (1, 100),
         (2, 1500),
@@ -956,7 +907,7 @@ fn lengths_around_the_limit() {
         text.push(b'\n');
         both.expect(&text, due((2, 8)));
     }
-    both.assert_seen(&[(1, 600), (2, 300), (7, 200)]);
+    both.outcomes.assert_seen(&[(1, 600), (2, 300), (7, 200)]);
 }
 
 #[test]
@@ -1007,7 +958,7 @@ fn texts_of_noise() {
             both.expect(&vec![byte; length], (2, 1));
         }
     }
-    both.assert_seen(&[
+    both.outcomes.assert_seen(&[
         (0, 10),
         (2, 10_000),
         (3, 50),
@@ -1041,7 +992,7 @@ fn every_prefix_of_good_texts() {
             }
         }
     }
-    both.assert_seen(&[(0, 13), (2, 10_000)]);
+    both.outcomes.assert_seen(&[(0, 13), (2, 10_000)]);
 }
 
 #[test]
@@ -1066,7 +1017,7 @@ fn every_byte_removed_changed_and_inserted() {
             both.circuit(&text, 1, 256);
         }
     }
-    both.assert_seen(&[
+    both.outcomes.assert_seen(&[
         (0, 300),
         (2, 50_000),
         (3, 300),

@@ -1,8 +1,8 @@
 //! The static library against the second implementation: number, place and
 //! the whole lent buffer, with noise in and around it, at every comparison.
 
-use reference::lent::Lent;
 use reference::library::{self, Answer};
+use reference::outcomes::{compare, written, Outcomes};
 use reference::random::Random;
 use reference::walsh::{self, Refusal, COEFFICIENT_LIMIT, ROW_LIMIT};
 use std::fmt;
@@ -31,10 +31,10 @@ impl fmt::Display for Shown<'_> {
 }
 
 /// Both implementations, the noise for lent buffers, and how often each
-/// outcome came (index 0: done).
+/// outcome came.
 struct Both {
     random: Random,
-    seen: [usize; 15],
+    outcomes: Outcomes,
     /// How often 10 or 11 came with a place other than 0.
     placed: usize,
 }
@@ -43,7 +43,7 @@ impl Both {
     fn new(subject: u64) -> Self {
         Both {
             random: Random::new(SEED + subject),
-            seen: [0; 15],
+            outcomes: Outcomes::default(),
             placed: 0,
         }
     }
@@ -57,23 +57,12 @@ impl Both {
         due: Result<Vec<i32>, Refusal>,
         door: impl FnOnce(&mut [i32]) -> Answer,
     ) -> (u32, usize) {
-        let mut lent = Lent::new(room, || self.random.noise());
-        let answer = door(lent.part());
-        let (number, place, written) = match due {
-            Ok(list) => (0, 0, list),
-            Err(refusal) => (refusal.number, refusal.place, Vec::new()),
-        };
-        assert_eq!(
-            answer,
-            Answer { number, place },
-            "{case}, room {room}: left the library, right what is due"
-        );
-        lent.assert_holds(&written, case);
+        let (number, place) = compare(&mut self.random, case, room, &due, door);
         self.note(number, place)
     }
 
     fn note(&mut self, number: u32, place: usize) -> (u32, usize) {
-        self.seen[number as usize] += 1;
+        self.outcomes.note(number);
         if place != 0 {
             self.placed += 1;
         }
@@ -131,17 +120,6 @@ impl Both {
         })
     }
 
-    /// Each listed outcome came at least so often, and no other came.
-    fn assert_seen(&self, least: &[(u32, usize)]) {
-        for number in 0..self.seen.len() as u32 {
-            let seen = self.seen[number as usize];
-            match least.iter().find(|entry| entry.0 == number) {
-                Some(&(_, count)) => assert!(seen >= count, "{number} came {seen} times only"),
-                None => assert_eq!(seen, 0, "{number} came, which this group excludes"),
-            }
-        }
-    }
-
     /// A list of one of several makes, each in range.
     fn list(&mut self, length: usize, limit: i32) -> Vec<i32> {
         let random = &mut self.random;
@@ -166,16 +144,20 @@ impl Both {
         }
     }
 
-    /// A buffer's length: exact, longer or too short for `due` numbers.
-    fn room(&mut self, due: usize) -> usize {
-        match self.random.below(8) {
-            0 => self.random.below(due),
-            1 => due - 1,
-            2 => due + 1,
-            3 => due + self.random.below(50),
-            4 => 2 * due,
-            _ => due,
+    /// Now and then numbers out of range, or a length that is none.
+    fn spoil_at_times(&mut self, list: &mut Vec<i32>, limit: i32) {
+        if self.random.once_in(6) {
+            self.spoil(list, limit);
         }
+        if self.random.once_in(12) {
+            list.pop();
+        }
+    }
+
+    /// Multiples of 8: sums of them over opened lines divide.
+    fn eights(&mut self, length: usize, limit: i32) -> Vec<i32> {
+        let eighths = self.random.list(length, limit / 8);
+        eighths.iter().map(|number| 8 * number).collect()
     }
 
     /// One to three rising inputs of n, and values.
@@ -223,6 +205,35 @@ fn bad_numbers(limit: i32) -> [i32; 6] {
 fn due_spectrum(rows: &[i32]) -> Vec<i32> {
     walsh::spectrum(rows, rows.len())
         .unwrap_or_else(|refusal| panic!("spectrum of {}: {refusal:?}", Shown(rows)))
+}
+
+/// The library's spectrum, without the second implementation.
+fn library_spectrum(rows: &[i32]) -> Vec<i32> {
+    let case = format_args!("spectrum of {}", Shown(rows));
+    written(case, rows.len(), |out| library::spectrum(rows, out))
+}
+
+/// The library's way back, without the second implementation.
+fn library_rows(coefficients: &[i32]) -> Vec<i32> {
+    let case = format_args!("rows of {}", Shown(coefficients));
+    written(case, coefficients.len(), |out| {
+        library::rows(coefficients, out)
+    })
+}
+
+/// Asserts that `door`, a fault's call on the spectrum of `rows`, writes the
+/// spectrum of `faulted`, the rows under that fault.
+fn assert_sums(
+    case: fmt::Arguments,
+    [rows, faulted]: [&[i32]; 2],
+    door: impl FnOnce(&mut [i32]) -> Answer,
+) {
+    let case = format_args!("{case} on rows {}", Shown(rows));
+    assert_eq!(
+        written(case, faulted.len(), door),
+        due_spectrum(faulted),
+        "{case}: right the faulted rows' sums"
+    );
 }
 
 /// Lists at the limits of a range, each with no number out of it.
@@ -307,9 +318,7 @@ fn examples_of_the_paper() {
     let spectrum_of = |ones: &[usize], length: usize| {
         let mut rows = vec![0; length];
         ones.iter().for_each(|&row| rows[row] = 1);
-        let mut spectrum = vec![0; length];
-        library::spectrum(&rows, &mut spectrum);
-        spectrum
+        library_spectrum(&rows)
     };
     let ones_of = |n: usize, function: fn(&dyn Fn(usize) -> bool) -> bool| -> Vec<usize> {
         (0..1 << n)
@@ -326,18 +335,22 @@ fn examples_of_the_paper() {
     let spectrum = spectrum_of(&ones_of(3, |x| x(1) && x(2) || x(3)), 8);
     assert_eq!(spectrum[0], 5);
     for (input, value, sum) in [(1, 0, 4), (1, 1, 6), (3, 0, 2), (3, 1, 8)] {
-        let mut found = [0; 8];
-        library::stuck(&spectrum, &[input], &[value], &mut found);
-        assert_eq!(found[0], sum, "x{input} stuck at {value}");
+        let case = format_args!("x{input} stuck at {value}");
+        let found = written(case, 8, |out| {
+            library::stuck(&spectrum, &[input], &[value], out)
+        });
+        assert_eq!(found[0], sum, "{case}");
     }
 
     let ones = ones_of(4, |x| x(1) && x(2) && x(3) || x(4) && !(x(2) && x(3)));
     let spectrum = spectrum_of(&ones, 16);
     assert_eq!(spectrum[0], 8);
     for (values, sum) in [([0, 0], 8), ([1, 0], 8), ([0, 1], 4), ([1, 1], 12)] {
-        let mut found = [0; 16];
-        library::stuck(&spectrum, &[1, 2], &values, &mut found);
-        assert_eq!(found[0], sum, "x1, x2 stuck at {values:?}");
+        let case = format_args!("x1, x2 stuck at {values:?}");
+        let found = written(case, 16, |out| {
+            library::stuck(&spectrum, &[1, 2], &values, out)
+        });
+        assert_eq!(found[0], sum, "{case}");
     }
 
     // Line 5 stands for x2x3 of the first product.
@@ -345,9 +358,9 @@ fn examples_of_the_paper() {
     let spectrum = spectrum_of(&ones, 32);
     assert_eq!((spectrum[0], spectrum[16]), (17, -5));
     for (value, sum) in [(0, 6), (1, 11)] {
-        let mut found = [0; 16];
-        library::opened(&spectrum, &[value], &mut found);
-        assert_eq!(found[0], sum, "opened line stuck at {value}");
+        let case = format_args!("opened line stuck at {value}");
+        let found = written(case, 16, |out| library::opened(&spectrum, &[value], out));
+        assert_eq!(found[0], sum, "{case}");
     }
 }
 
@@ -417,7 +430,7 @@ fn every_length_up_to_2100() {
         let found = both.coefficient(&zeros, 0);
         assert_eq!(found, due, "coefficient of {length} zeros");
     }
-    both.assert_seen(&[(0, 54), (9, 10_000)]);
+    both.outcomes.assert_seen(&[(0, 54), (9, 10_000)]);
 }
 
 #[test]
@@ -447,7 +460,7 @@ fn first_number_out_of_range() {
             }
         }
     }
-    both.assert_seen(&[(10, 1500)]);
+    both.outcomes.assert_seen(&[(10, 1500)]);
     assert!(both.placed > 1000, "places beyond 0: {}", both.placed);
 }
 
@@ -465,7 +478,7 @@ fn every_index_out_of_range() {
             }
         }
     }
-    both.assert_seen(&[(10, 8000)]);
+    both.outcomes.assert_seen(&[(10, 8000)]);
 }
 
 #[test]
@@ -493,7 +506,7 @@ fn buffers_too_short_exact_and_longer() {
             }
         }
     }
-    both.assert_seen(&[(0, 250), (8, 150)]);
+    both.outcomes.assert_seen(&[(0, 250), (8, 150)]);
 }
 
 #[test]
@@ -517,7 +530,7 @@ fn extremes_of_each_range() {
             }
         }
     }
-    both.assert_seen(&[(0, 250), (10, 150), (11, 50)]);
+    both.outcomes.assert_seen(&[(0, 250), (10, 150), (11, 50)]);
 }
 
 #[test]
@@ -550,7 +563,7 @@ fn two_refusals_at_once_in_every_list_call() {
             "{name}: empty list and buffer"
         );
     }
-    both.assert_seen(&[(9, 100), (10, 200)]);
+    both.outcomes.assert_seen(&[(9, 100), (10, 200)]);
 }
 
 // One coefficient.
@@ -561,12 +574,7 @@ fn coefficient_at_random_labels() {
     for length in LENGTHS {
         for _ in 0..rounds(length) {
             let mut rows = both.list(length, ROW_LIMIT);
-            if both.random.once_in(6) {
-                both.spoil(&mut rows, ROW_LIMIT);
-            }
-            if both.random.once_in(12) {
-                rows.pop();
-            }
+            both.spoil_at_times(&mut rows, ROW_LIMIT);
             let label = match both.random.below(6) {
                 0 => length as u32 + both.random.below(10) as u32,
                 1 => both.random.word() as u32,
@@ -575,7 +583,8 @@ fn coefficient_at_random_labels() {
             both.coefficient(&rows, label);
         }
     }
-    both.assert_seen(&[(0, 1000), (9, 100), (10, 100), (12, 300)]);
+    both.outcomes
+        .assert_seen(&[(0, 1000), (9, 100), (10, 100), (12, 300)]);
 }
 
 #[test]
@@ -583,16 +592,7 @@ fn coefficient_at_every_label() {
     let mut both = Both::new(11);
     for length in LENGTHS {
         let rows = both.random.list(length, ROW_LIMIT);
-        let mut written = vec![0; length];
-        let answer = library::spectrum(&rows, &mut written);
-        assert_eq!(
-            answer,
-            Answer {
-                number: 0,
-                place: 0
-            }
-        );
-        for (label, &listed) in written.iter().enumerate() {
+        for (label, &listed) in library_spectrum(&rows).iter().enumerate() {
             both.coefficient(&rows, label as u32);
             let found = library::coefficient(&rows, label as u32);
             assert_eq!(
@@ -601,7 +601,7 @@ fn coefficient_at_every_label() {
             );
         }
     }
-    both.assert_seen(&[(0, 4094)]);
+    both.outcomes.assert_seen(&[(0, 4094)]);
 }
 
 #[test]
@@ -620,7 +620,7 @@ fn coefficient_at_the_ends_and_extremes() {
         let whole = library::coefficient(&vec![ROW_LIMIT; length], 0);
         assert_eq!(whole.value, ROW_LIMIT * length as i32);
     }
-    both.assert_seen(&[(0, 300), (12, 300)]);
+    both.outcomes.assert_seen(&[(0, 300), (12, 300)]);
 }
 
 #[test]
@@ -645,7 +645,7 @@ fn coefficient_with_two_refusals_at_once() {
             assert_eq!(both.coefficient(&rows, at as u32), (10, at), "10 alone");
         }
     }
-    both.assert_seen(&[(9, 25), (10, 33), (12, 33)]);
+    both.outcomes.assert_seen(&[(9, 25), (10, 33), (12, 33)]);
 }
 
 // Rows to the spectrum, and the way back.
@@ -656,17 +656,13 @@ fn spectrum_of_random_lists() {
     for length in LENGTHS {
         for _ in 0..rounds(length) {
             let mut rows = both.list(length, ROW_LIMIT);
-            if both.random.once_in(6) {
-                both.spoil(&mut rows, ROW_LIMIT);
-            }
-            if both.random.once_in(12) {
-                rows.pop();
-            }
-            let room = both.room(length);
+            both.spoil_at_times(&mut rows, ROW_LIMIT);
+            let room = both.random.room(length);
             both.spectrum(&rows, room);
         }
     }
-    both.assert_seen(&[(0, 1000), (8, 300), (9, 100), (10, 300)]);
+    both.outcomes
+        .assert_seen(&[(0, 1000), (8, 300), (9, 100), (10, 300)]);
     assert!(both.placed > 200, "places beyond 0: {}", both.placed);
 }
 
@@ -682,7 +678,7 @@ fn spectrum_of_one_row() {
             assert_eq!(both.spectrum(&rows, length), (0, 0), "row {row}");
         }
     }
-    both.assert_seen(&[(0, 300)]);
+    both.outcomes.assert_seen(&[(0, 300)]);
 }
 
 #[test]
@@ -694,24 +690,13 @@ fn round_trips() {
             lists.push(both.list(length, ROW_LIMIT));
         }
         for rows in lists {
-            let mut spectrum = vec![0; length];
-            let there = library::spectrum(&rows, &mut spectrum);
-            assert_eq!(
-                there,
-                Answer {
-                    number: 0,
-                    place: 0
-                },
-                "{}",
-                Shown(&rows)
-            );
+            let spectrum = library_spectrum(&rows);
             assert_eq!(both.rows(&spectrum, length + 1), (0, 0), "{}", Shown(&rows));
-            let mut back = vec![i32::MIN; length];
-            library::rows(&spectrum, &mut back);
+            let back = library_rows(&spectrum);
             assert_eq!(back, rows, "left the rows that came back, right the rows");
         }
     }
-    both.assert_seen(&[(0, 1000)]);
+    both.outcomes.assert_seen(&[(0, 1000)]);
 }
 
 #[test]
@@ -724,17 +709,13 @@ fn rows_of_random_coefficients() {
             } else {
                 both.list(length, COEFFICIENT_LIMIT)
             };
-            if both.random.once_in(6) {
-                both.spoil(&mut list, COEFFICIENT_LIMIT);
-            }
-            if both.random.once_in(12) {
-                list.pop();
-            }
-            let room = both.room(length);
+            both.spoil_at_times(&mut list, COEFFICIENT_LIMIT);
+            let room = both.random.room(length);
             both.rows(&list, room);
         }
     }
-    both.assert_seen(&[(0, 500), (8, 300), (9, 100), (10, 300), (11, 500)]);
+    both.outcomes
+        .assert_seen(&[(0, 500), (8, 300), (9, 100), (10, 300), (11, 500)]);
 }
 
 #[test]
@@ -757,8 +738,7 @@ fn rows_of_mutated_spectra() {
             }
             let (number, place) = both.rows(&mutated, length);
             if number == 0 {
-                let mut found = vec![0; length];
-                library::rows(&mutated, &mut found);
+                let found = library_rows(&mutated);
                 assert_eq!(due_spectrum(&found), mutated, "rows of {}", Shown(&mutated));
                 assert_eq!(found == rows, mutated == spectrum);
             }
@@ -769,7 +749,7 @@ fn rows_of_mutated_spectra() {
             }
         }
     }
-    both.assert_seen(&[(0, 500), (11, 1500)]);
+    both.outcomes.assert_seen(&[(0, 500), (11, 1500)]);
     assert!(both.placed > 300, "places beyond 0: {}", both.placed);
 }
 
@@ -814,7 +794,7 @@ fn rows_just_in_and_out_of_range() {
             }
         }
     }
-    both.assert_seen(&[(0, 80), (10, 8), (11, 200)]);
+    both.outcomes.assert_seen(&[(0, 80), (10, 8), (11, 200)]);
 }
 
 #[test]
@@ -833,7 +813,8 @@ fn rows_with_two_refusals_at_once() {
         list.push(0);
         assert_eq!(both.rows(&list, length), (9, 0), "9 and 11");
     }
-    both.assert_seen(&[(8, 22), (9, 11), (10, 22), (11, 11)]);
+    both.outcomes
+        .assert_seen(&[(8, 22), (9, 11), (10, 22), (11, 11)]);
 }
 
 // Stuck inputs.
@@ -845,12 +826,7 @@ fn stuck_inputs_at_random() {
         let n = inputs_of(length);
         for _ in 0..rounds(length) * 2 {
             let mut list = both.list(length, COEFFICIENT_LIMIT);
-            if both.random.once_in(6) {
-                both.spoil(&mut list, COEFFICIENT_LIMIT);
-            }
-            if both.random.once_in(12) {
-                list.pop();
-            }
+            both.spoil_at_times(&mut list, COEFFICIENT_LIMIT);
             let (mut inputs, mut values) = both.fault(n);
             match both.random.below(24) {
                 0 => inputs.push(n as u32 + 1),
@@ -866,11 +842,12 @@ fn stuck_inputs_at_random() {
                 }
                 _ => (),
             }
-            let room = both.room(length);
+            let room = both.random.room(length);
             both.stuck(&list, &inputs, &values, room);
         }
     }
-    both.assert_seen(&[(0, 2000), (8, 500), (9, 300), (10, 500), (12, 500)]);
+    both.outcomes
+        .assert_seen(&[(0, 2000), (8, 500), (9, 300), (10, 500), (12, 500)]);
     assert!(both.placed > 300, "places beyond 0: {}", both.placed);
 }
 
@@ -893,7 +870,7 @@ fn stuck_inputs_every_fault_of_every_length() {
             }
         }
     }
-    both.assert_seen(&[(0, 4000)]);
+    both.outcomes.assert_seen(&[(0, 4000)]);
 }
 
 #[test]
@@ -916,7 +893,7 @@ fn stuck_inputs_every_argument_of_short_lists() {
             }
         }
     }
-    both.assert_seen(&[(0, 90), (12, 10_000)]);
+    both.outcomes.assert_seen(&[(0, 90), (12, 10_000)]);
 }
 
 #[test]
@@ -981,7 +958,7 @@ fn stuck_inputs_out_of_range() {
         assert_eq!(both.stuck(&zeros, &[], &[], length), (9, 0), "9 and 12");
         assert_eq!(both.stuck(&zeros, &[12], &[0], 0), (9, 0), "9, 12 and 8");
     }
-    both.assert_seen(&[(0, 44), (9, 200), (12, 800)]);
+    both.outcomes.assert_seen(&[(0, 44), (9, 200), (12, 800)]);
 }
 
 #[test]
@@ -992,18 +969,14 @@ fn stuck_inputs_of_rows() {
             let (rows, spectrum) = both.spectrum_of_rows(length);
             let (inputs, values) = both.fault(inputs_of(length));
             assert_eq!(both.stuck(&spectrum, &inputs, &values, length), (0, 0));
-            let due = due_spectrum(&stuck_rows(&rows, &inputs, &values));
-            let mut found = vec![i32::MIN; length];
-            library::stuck(&spectrum, &inputs, &values, &mut found);
-            assert_eq!(
-                found,
-                due,
-                "inputs {inputs:?} stuck at {values:?} on rows {}: right the faulted rows' sums",
-                Shown(&rows)
-            );
+            let faulted = stuck_rows(&rows, &inputs, &values);
+            let case = format_args!("inputs {inputs:?} stuck at {values:?}");
+            assert_sums(case, [&rows, &faulted], |out| {
+                library::stuck(&spectrum, &inputs, &values, out)
+            });
         }
     }
-    both.assert_seen(&[(0, 2000)]);
+    both.outcomes.assert_seen(&[(0, 2000)]);
 }
 
 // Opened lines.
@@ -1019,8 +992,7 @@ fn opened_lines_at_random() {
                 // Sums that divide, but for one coefficient at most: 11 at
                 // labels beyond 0.
                 _ => {
-                    let mut list = both.random.list(length, COEFFICIENT_LIMIT / 8);
-                    list.iter_mut().for_each(|number| *number *= 8);
+                    let mut list = both.eights(length, COEFFICIENT_LIMIT);
                     let at = both.random.below(length);
                     let limit = COEFFICIENT_LIMIT;
                     let change = both.random.pick(&[0, 0, 1, -1, 2, 4, -4]);
@@ -1028,12 +1000,7 @@ fn opened_lines_at_random() {
                     list
                 }
             };
-            if both.random.once_in(6) {
-                both.spoil(&mut list, COEFFICIENT_LIMIT);
-            }
-            if both.random.once_in(12) {
-                list.pop();
-            }
+            both.spoil_at_times(&mut list, COEFFICIENT_LIMIT);
             let k = 1 + both.random.below(all.min(3));
             let mut values = both.values(k);
             match both.random.below(20) {
@@ -1042,11 +1009,11 @@ fn opened_lines_at_random() {
                 2 => values[k - 1] = both.random.pick(&[2, 3, 1 << 31, u32::MAX]),
                 _ => (),
             }
-            let room = both.room(length >> k);
+            let room = both.random.room(length >> k);
             both.opened(&list, &values, room);
         }
     }
-    both.assert_seen(&[
+    both.outcomes.assert_seen(&[
         (0, 800),
         (8, 300),
         (9, 300),
@@ -1068,18 +1035,14 @@ fn opened_lines_of_rows_always_divide() {
             let values = both.values(k);
             let room = length >> k;
             assert_eq!(both.opened(&spectrum, &values, room), (0, 0));
-            let due = due_spectrum(&opened_rows(&rows, &values));
-            let mut found = vec![i32::MIN; room];
-            library::opened(&spectrum, &values, &mut found);
-            assert_eq!(
-                found,
-                due,
-                "opened lines at {values:?} on rows {}: right the faulted rows' sums",
-                Shown(&rows)
-            );
+            let faulted = opened_rows(&rows, &values);
+            let case = format_args!("opened lines at {values:?}");
+            assert_sums(case, [&rows, &faulted], |out| {
+                library::opened(&spectrum, &values, out)
+            });
         }
     }
-    both.assert_seen(&[(0, 2000)]);
+    both.outcomes.assert_seen(&[(0, 2000)]);
 }
 
 #[test]
@@ -1094,7 +1057,7 @@ fn opened_lines_of_any_list_seldom_divide() {
             both.opened(&list, &values, length);
         }
     }
-    both.assert_seen(&[(0, 100), (11, 2000)]);
+    both.outcomes.assert_seen(&[(0, 100), (11, 2000)]);
     assert!(both.placed > 400, "places beyond 0: {}", both.placed);
 }
 
@@ -1108,8 +1071,7 @@ fn opened_lines_refused_at_each_label() {
                 for line in [0, 1 << k >> 1] {
                     // 2^(k-1) is the largest change that does not divide.
                     for change in [1, -1, 1 << (k - 1)] {
-                        let mut list = both.random.list(length, COEFFICIENT_LIMIT / 16);
-                        list.iter_mut().for_each(|number| *number *= 8);
+                        let mut list = both.eights(length, COEFFICIENT_LIMIT / 2);
                         let values = both.values(k);
                         assert_eq!(both.opened(&list, &values, room), (0, 0), "{values:?}");
                         list[label + line * room] += change;
@@ -1129,7 +1091,8 @@ fn opened_lines_refused_at_each_label() {
             }
         }
     }
-    both.assert_seen(&[(0, 400), (8, 400), (10, 400), (11, 400), (12, 400)]);
+    both.outcomes
+        .assert_seen(&[(0, 400), (8, 400), (10, 400), (11, 400), (12, 400)]);
 }
 
 #[test]
@@ -1137,8 +1100,7 @@ fn opened_lines_every_argument() {
     let mut both = Both::new(44);
     for length in LENGTHS {
         let all = inputs_of(length);
-        let mut list = both.random.list(length, COEFFICIENT_LIMIT / 8);
-        list.iter_mut().for_each(|number| *number *= 8);
+        let list = both.eights(length, COEFFICIENT_LIMIT);
         for k in 0..=4 {
             for values in tuples(k, 3) {
                 let good = (1..=3).contains(&k) && k < all && values.iter().all(|&v| v < 2);
@@ -1158,7 +1120,7 @@ fn opened_lines_every_argument() {
             assert_eq!(found, (12, 0), "{values:?} of {length}");
         }
     }
-    both.assert_seen(&[(0, 200), (8, 200), (12, 1000)]);
+    both.outcomes.assert_seen(&[(0, 200), (8, 200), (12, 1000)]);
 }
 
 #[test]
@@ -1193,5 +1155,5 @@ fn opened_lines_with_two_refusals_at_once() {
         let list = vec![i32::MAX; length];
         assert_eq!(both.opened(&list, &[2], 0), (9, 0), "9, 12, 10 and 8");
     }
-    both.assert_seen(&[(9, 70), (12, 120)]);
+    both.outcomes.assert_seen(&[(9, 70), (12, 120)]);
 }

@@ -22,9 +22,9 @@ use Rattle.netlist.specs.declared.Output.{Output}
 use Rattle.netlist.specs.declared.Parsed.{Parsed}
 use Rattle.netlist.proofs.LineLoops.{read-refused, read-done}
 
-pub meant : (p : Parsed) (number place : ℕ) → p .number ≡ number → p .place ≡ place → (number ≡ 0 → ⊥) → meaning p ≡ rejected number place
+pub meant : (p : Parsed) {number place : ℕ} → p .number ≡ number → p .place ≡ place → (number ≡ 0 → ⊥) → meaning p ≡ rejected number place
 unfolding meaning
-meant p number place e k n = rw (e, k, ne-eqb number 0 n)
+meant p {number} {place} e k n = rw (e, k, ne-eqb number 0 n)
 
 module _ (h : Head) (text : List ℕ) (from gn gp ga : ℕ) (gl : List Gate) (g : readOf text (h .gates) gn gp ga gl ≡ linesOf (nthGateRefusal (h .inputs)) gateOf (h .gates) 2 (drop from text) []) where
   pub gates-stop : (gn ≡ 0 → ⊥) → bodyOf h (drop from text) ≡ rejected gn gp
@@ -61,12 +61,12 @@ module _ (text : List ℕ) where
   unfolding parseOf
   too-long k = rw (lt-ltb 16384 (length text) k)
 
-  module _ (few : length text ≤ 16384) (e : ℕ) (cut : e ≡ 0 + indexOf lineEnd (drop 0 text)) where
+  module _ (few : length text ≤ 16384) {e : ℕ} (cut : e ≡ 0 + indexOf lineEnd (drop 0 text)) where
     pub no-head : length text ≤ e → parseOf text ≡ rejected 2 1
     unfolding parseOf
     no-head k = rw (le-ltb 16384 (length text) few, cut-none lineEnd text 0 e cut k)
 
-    module _ (inside : e < length text) (number : ℕ) (by : number ≡ headRefusal (take (e - 0) (drop 0 text))) where
+    module _ (inside : e < length text) {number : ℕ} (by : number ≡ headRefusal (take (e - 0) (drop 0 text))) where
       first : headRefusal (before lineEnd text) ≡ number
       first = ap headRefusal (sym (cut-before lineEnd text 0 e cut)) ∙ sym by
 

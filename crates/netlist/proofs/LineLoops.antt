@@ -54,52 +54,53 @@ module _ {A : Type 0} (refusal : ℕ → List ℕ → ℕ) (item : List ℕ → 
     pub begun : (room : ℕ) (l : List A) → length l ≡ room → Reading room l 0 from
     begun room l e = record { within = zero-le; size = e; same = rw (sub-zero, add-zero) }
 
-    module _ (room : ℕ) (l : List A) (j at : ℕ) (fit : count ≤ room) (inv : Reading room l j at) where
-      pub finished : count ≤ j → readOf text count 0 0 at l ≡ All
-      finished h =
-          let e : j ≡ count = omega (arith, inv .within) in
-          let z : count - j ≡ 0 = omega arith in
-          let k : take count l ≡ take j l = ap (λ (n : ℕ). take n l) (sym e) in
-          read-done text count 0 0 at l refl ∙ ap (λ (r : List A). items r (drop at text)) k ∙ sym (inv .same ∙ no-lines (count - j) (first + j) (drop at text) (take j l) z)
+module _ {A : Type 0} {refusal : ℕ → List ℕ → ℕ} {item : List ℕ → A} {text : List ℕ} {from first count room : ℕ} {l : List A} {j at : ℕ}
+    (inv : Reading refusal item text from first count room l j at) (fit : count ≤ room) where
+  pub finished : count ≤ j → readOf text count 0 0 at l ≡ All refusal item text from first count
+  finished h =
+      let e : j ≡ count = omega (arith, inv .within) in
+      let z : count - j ≡ 0 = omega arith in
+      let k : take count l ≡ take j l = ap (λ (n : ℕ). take n l) (sym e) in
+      read-done text count 0 0 at l refl ∙ ap (λ (r : List A). items r (drop at text)) k ∙ sym (inv .same ∙ no-lines refusal item (count - j) (first + j) (drop at text) (take j l) z)
 
-      module _ (more : j < count) (e : ℕ) (cut : e ≡ at + indexOf lineEnd (drop at text)) where
-        got : length (take j l) ≡ j
-        got = let h : j ≤ length l = omega (arith, inv .size) in length-take-le j l h
+  module _ (more : j < count) {e : ℕ} (cut : e ≡ at + indexOf lineEnd (drop at text)) where
+    got : length (take j l) ≡ j
+    got = let h : j ≤ length l = omega (arith, inv .size) in length-take-le j l h
 
-        left : count - j ≡ suc (count - (j + 1))
-        left = omega arith
+    left : count - j ≡ suc (count - (j + 1))
+    left = omega arith
 
-        stop : (number : ℕ) → (number ≡ 0 → ⊥) → lineRefusal (refusal (length (take j l))) (drop at text) ≡ number → readOf text count number (first + j) at l ≡ All
-        stop number n by =
-            read-refused text count number (first + j) at l n
-            ∙ sym (inv .same ∙ ap (λ (k : ℕ). linesOf refusal item k (first + j) (drop at text) (take j l)) left ∙ line-refused (count - (j + 1)) (first + j) number (drop at text) (take j l) by n)
+    stop : (number : ℕ) → (number ≡ 0 → ⊥) → lineRefusal (refusal (length (take j l))) (drop at text) ≡ number → readOf text count number (first + j) at l ≡ All refusal item text from first count
+    stop number n by =
+        read-refused text count number (first + j) at l n
+        ∙ sym (inv .same ∙ ap (λ (k : ℕ). linesOf refusal item k (first + j) (drop at text) (take j l)) left ∙ line-refused refusal item (count - (j + 1)) (first + j) number (drop at text) (take j l) by n)
 
-        pub missing : length text ≤ e → readOf text count 2 (first + j) at l ≡ All
-        missing h = stop 2 (λ x. absurd (omega arith)) (rw (cut-none lineEnd text at e cut h))
+    pub missing : length text ≤ e → readOf text count 2 (first + j) at l ≡ All refusal item text from first count
+    missing h = stop 2 (λ x. absurd (omega arith)) (rw (cut-none lineEnd text at e cut h))
 
-        module _ (inside : e < length text) (number : ℕ) (by : number ≡ refusal j (take (e - at) (drop at text))) where
-          told : lineRefusal (refusal (length (take j l))) (drop at text) ≡ number
-          told =
-              rw (cut-has lineEnd text at e cut inside)
-              (ap₂ refusal got (sym (cut-before lineEnd text at e cut)) ∙ sym by)
+    module _ (inside : e < length text) {number : ℕ} (by : number ≡ refusal j (take (e - at) (drop at text))) where
+      told : lineRefusal (refusal (length (take j l))) (drop at text) ≡ number
+      told =
+          rw (cut-has lineEnd text at e cut inside)
+          (ap₂ refusal got (sym (cut-before lineEnd text at e cut)) ∙ sym by)
 
-          pub declined : (number ≡ 0 → ⊥) → readOf text count number (first + j) at l ≡ All
-          declined n = stop number n told
+      pub declined : (number ≡ 0 → ⊥) → readOf text count number (first + j) at l ≡ All refusal item text from first count
+      declined n = stop number n told
 
-          pub turned : (x : A) → number ≡ 0 → x ≡ item (take (e - at) (drop at text)) → Reading room (set l j x) (j + 1) (e + 1)
-          turned x z is =
-              let h : j < length l = omega (arith, inv .size) in
-              let rest = drop at text in
-              let taken : take j l ++ (item (before lineEnd rest) ∷ []) ≡ take (j + 1) (set l j x)
-              = ap (λ (y : A). take j l ++ (y ∷ [])) (ap item (sym (cut-before lineEnd text at e cut)) ∙ sym is) ∙ sym (take-suc-set l j x h) ∙ ap (λ (k : ℕ). take k (set l j x)) (sym (add-one j)) in
-              let p : suc (first + j) ≡ first + (j + 1) = omega arith in
-              record {
-                within = omega arith;
-                size = length-set l j x ∙ inv .size;
-                same =
-                    inv .same
-                    ∙ ap (λ (k : ℕ). linesOf refusal item k (first + j) rest (take j l)) left
-                    ∙ line-read (count - (j + 1)) (first + j) number rest (take j l) told z
-                    ∙ ap₂ (λ (k : ℕ) (t : List ℕ). linesOf refusal item (count - (j + 1)) k t (take j l ++ (item (before lineEnd rest) ∷ []))) p (sym (cut-after lineEnd text at e cut))
-                    ∙ ap (linesOf refusal item (count - (j + 1)) (first + (j + 1)) (drop (e + 1) text)) taken;
-              }
+      pub turned : {x : A} → number ≡ 0 → x ≡ item (take (e - at) (drop at text)) → Reading refusal item text from first count room (set l j x) (j + 1) (e + 1)
+      turned {x} z is =
+          let h : j < length l = omega (arith, inv .size) in
+          let rest = drop at text in
+          let taken : take j l ++ (item (before lineEnd rest) ∷ []) ≡ take (j + 1) (set l j x)
+          = ap (λ (y : A). take j l ++ (y ∷ [])) (ap item (sym (cut-before lineEnd text at e cut)) ∙ sym is) ∙ sym (take-suc-set l j x h) ∙ ap (λ (k : ℕ). take k (set l j x)) (sym (add-one j)) in
+          let p : suc (first + j) ≡ first + (j + 1) = omega arith in
+          record {
+            within = omega arith;
+            size = length-set l j x ∙ inv .size;
+            same =
+                inv .same
+                ∙ ap (λ (k : ℕ). linesOf refusal item k (first + j) rest (take j l)) left
+                ∙ line-read refusal item (count - (j + 1)) (first + j) number rest (take j l) told z
+                ∙ ap₂ (λ (k : ℕ) (t : List ℕ). linesOf refusal item (count - (j + 1)) k t (take j l ++ (item (before lineEnd rest) ∷ []))) p (sym (cut-after lineEnd text at e cut))
+                ∙ ap (linesOf refusal item (count - (j + 1)) (first + (j + 1)) (drop (e + 1) text)) taken;
+          }

@@ -52,7 +52,7 @@ spectrum-room rows k room low high e w =
 module _ (text : List ℕ) (fault room : ℕ) (p : Parsed) (means : meaning p ≡ parseOf text) where
   pub text-stop : (p .number ≡ 0 → ⊥) → circuitAnswer text fault room ≡ Refused (p .number) (p .place)
   unfolding circuitAnswer
-  text-stop n = rw (sym means, meant p (p .number) (p .place) refl refl n)
+  text-stop n = rw (sym means, meant p refl refl n)
 
   module _ (number : p .number ≡ 0) where
     pub accepted-as : parseOf text ≡ accepted (netlistOf (p .circuit))

@@ -3,7 +3,6 @@ use borrow.Author.Needs.{needs}
 use denote.Ref.{now}
 use mathlib.Core.Path.{sym, _∙_}
 use native.Mathlib.Omega.{arith}
-use Prim.Native.Nat.{_+_}
 use Rattle.netlist.specs.Parsing.{meaning}
 use Rattle.netlist.proofs.Assembling.{meant, gates-stop, outputs-stop, faults-stop, bytes-left, all-read}
 use Rattle.netlist.proofs.parsing.body.Statement.{statement}
@@ -23,7 +22,7 @@ returns c =
     let a = c .before .before .before .before .before .before .args in
     let g = c .before .before .before .gates in
     let stopped = c .before .if1 .taken in
-    (meant (c .refused .result) (g .result .number) (g .result .place) (c .refused .ensures .0) (c .refused .ensures .1) stopped ∙ sym (gates-stop (a .head) (now (a .text)) (a .from) (g .result .number) (g .result .place) (g .result .at) (g .result .gates) (g .ensures) stopped), c .refused .ensures .2)
+    (meant (c .refused .result) (c .refused .ensures .0) (c .refused .ensures .1) stopped ∙ sym (gates-stop (a .head) (now (a .text)) (a .from) (g .result .number) (g .result .place) (g .result .at) (g .result .gates) (g .ensures) stopped), c .refused .ensures .2)
 
 add-outputs : tie.Need-add-outputs
 add-outputs c = search needs
@@ -40,7 +39,7 @@ returns-2 c =
     let g = c .before .before .before .before .before .before .before .gates in
     let o = c .before .before .before .outputs in
     let stopped = c .before .if2 .taken in
-    (meant (c .refused2 .result) (o .result .number) (o .result .place) (c .refused2 .ensures .0) (c .refused2 .ensures .1) stopped ∙ sym (outputs-stop (a .head) (now (a .text)) (a .from) (g .result .number) (g .result .place) (g .result .at) (g .result .gates) (g .ensures) (c .before .before .before .before .before .if1 .left) (o .result .number) (o .result .place) (o .result .at) (o .result .outputs) (o .ensures) stopped), c .refused2 .ensures .2)
+    (meant (c .refused2 .result) (c .refused2 .ensures .0) (c .refused2 .ensures .1) stopped ∙ sym (outputs-stop (a .head) (now (a .text)) (a .from) (g .result .number) (g .result .place) (g .result .at) (g .result .gates) (g .ensures) (c .before .before .before .before .before .if1 .left) (o .result .number) (o .result .place) (o .result .at) (o .result .outputs) (o .ensures) stopped), c .refused2 .ensures .2)
 
 add-faults : tie.Need-add-faults
 add-faults c = search needs
@@ -61,7 +60,7 @@ returns-3 c =
     let o = c .before .before .before .before .before .before .before .outputs in
     let f = c .before .before .before .faults in
     let stopped = c .before .if3 .taken in
-    (meant (c .refused3 .result) (f .result .number) (f .result .place) (c .refused3 .ensures .0) (c .refused3 .ensures .1) stopped ∙ sym (faults-stop (a .head) (now (a .text)) (a .from) (g .result .number) (g .result .place) (g .result .at) (g .result .gates) (g .ensures) (c .before .before .before .before .before .before .before .before .before .if1 .left) (o .result .number) (o .result .place) (o .result .at) (o .result .outputs) (o .ensures) (c .before .before .before .before .before .if2 .left) (f .result .number) (f .result .place) (f .result .at) (f .result .faults) (f .ensures) stopped), c .refused3 .ensures .2)
+    (meant (c .refused3 .result) (c .refused3 .ensures .0) (c .refused3 .ensures .1) stopped ∙ sym (faults-stop (a .head) (now (a .text)) (a .from) (g .result .number) (g .result .place) (g .result .at) (g .result .gates) (g .ensures) (c .before .before .before .before .before .before .before .before .before .if1 .left) (o .result .number) (o .result .place) (o .result .at) (o .result .outputs) (o .ensures) (c .before .before .before .before .before .if2 .left) (f .result .number) (f .result .place) (f .result .at) (f .result .faults) (f .ensures) stopped), c .refused3 .ensures .2)
 
 add-refused : tie.Need-add-refused
 add-refused c = omega (arith, c .before .before .before .before .before .before .before .before .before .before .before .before .before .before .before .before .pre)
@@ -82,7 +81,7 @@ returns-4 c =
     let o = c .before .before .before .before .before .before .before .before .before .before .before .outputs in
     let f = c .before .before .before .before .before .before .before .faults in
     let h = a .head in (
-      meant (c .refused4 .result) 7 (h .gates + h .outputs + h .faults + 2) (c .refused4 .ensures .0) (c .refused4 .ensures .1) (λ e. absurd (omega arith))
+      meant (c .refused4 .result) (c .refused4 .ensures .0) (c .refused4 .ensures .1) (λ e. absurd (omega arith))
           ∙ sym (bytes-left (a .head) (now (a .text)) (a .from) (g .result .number) (g .result .place) (g .result .at) (g .result .gates) (g .ensures) (c .before .before .before .before .before .before .before .before .before .before .before .before .before .if1 .left) (o .result .number) (o .result .place) (o .result .at) (o .result .outputs) (o .ensures) (c .before .before .before .before .before .before .before .before .before .if2 .left) (f .result .number) (f .result .place) (f .result .at) (f .result .faults) (f .ensures) (c .before .before .before .before .before .if3 .left) (c .before .before .before .if4 .taken)),
       c .refused4 .ensures .2,
     )

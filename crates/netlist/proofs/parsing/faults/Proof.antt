@@ -26,10 +26,9 @@ add-t17 c = search needs
 
 returns : tie.Need-returns Inv-loop μ-loop
 returns c =
-    let a = c .before .before .before .before .before .args in
     let l = c .before .before .before .loop in
     let f = c .before .find in
-    missing (nthFaultRefusal (a .top)) faultOf (now (a .text)) (a .from) (a .place) (a .count) 32 (l .faults) (l .j) (l .at) (omega arith) (l .inv) (omega arith) (f .result) (f .ensures) (omega arith)
+    missing (l .inv) (omega arith) (omega arith) (f .ensures) (omega arith)
 
 sub-fault-line : tie.Need-sub-fault-line Inv-loop μ-loop
 sub-fault-line c = search needs
@@ -48,11 +47,10 @@ add-t22 c = search needs
 
 returns-2 : tie.Need-returns-2 Inv-loop μ-loop
 returns-2 c =
-    let a = c .before .before .before .before .before .before .before .before .args in
     let l = c .before .before .before .before .before .before .loop in
     let f = c .before .before .before .before .find in
     let r = c .before .fault-line in
-    declined (nthFaultRefusal (a .top)) faultOf (now (a .text)) (a .from) (a .place) (a .count) 32 (l .faults) (l .j) (l .at) (omega arith) (l .inv) (omega arith) (f .result) (f .ensures) (omega arith) (r .result .number) (r .ensures .0) (c .if2 .taken)
+    declined (l .inv) (omega arith) (omega arith) (f .ensures) (omega arith) (r .ensures .0) (c .if2 .taken)
 
 mul-faults : tie.Need-mul-faults Inv-loop μ-loop
 mul-faults c = search needs
@@ -71,17 +69,13 @@ loop-less c = search needs
 
 loop-again : tie.Need-loop-again Inv-loop μ-loop
 loop-again c =
-    let a = c .before .before .before .before .before .before .before .before .before .args in
     let l = c .before .before .before .before .before .before .before .loop in
     let f = c .before .before .before .before .before .find in
     let r = c .before .before .fault-line in
-    turned (nthFaultRefusal (a .top)) faultOf (now (a .text)) (a .from) (a .place) (a .count) 32 (l .faults) (l .j) (l .at) (omega arith) (l .inv) (omega arith) (f .result) (f .ensures) (omega arith) (r .result .number) (r .ensures .0) (r .result .fault) (c .before .if2 .left) (r .ensures .1)
+    turned (l .inv) (omega arith) (omega arith) (f .ensures) (omega arith) (r .ensures .0) (c .before .if2 .left) (r .ensures .1)
 
 returns-3 : tie.Need-returns-3 Inv-loop μ-loop
-returns-3 c =
-    let a = c .before .before .before .args in
-    let l = c .before .loop in
-    finished (nthFaultRefusal (a .top)) faultOf (now (a .text)) (a .from) (a .place) (a .count) 32 (l .faults) (l .j) (l .at) (omega arith) (l .inv) (omega arith)
+returns-3 c = finished (c .before .loop .inv) (omega arith) (omega arith)
 
 pub faults-spec : {M : Type 1} → statement M
 faults-spec =

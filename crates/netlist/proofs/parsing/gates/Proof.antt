@@ -26,10 +26,9 @@ add-t16 c = search needs
 
 returns : tie.Need-returns Inv-loop μ-loop
 returns c =
-    let a = c .before .before .before .before .before .args in
     let l = c .before .before .before .loop in
     let f = c .before .find in
-    missing (nthGateRefusal (a .inputs)) gateOf (now (a .text)) (a .from) 2 (a .count) 48 (l .gates) (l .j) (l .at) (omega arith) (l .inv) (omega arith) (f .result) (f .ensures) (omega arith)
+    missing (l .inv) (omega arith) (omega arith) (f .ensures) (omega arith)
 
 add-gate-line : tie.Need-add-gate-line Inv-loop μ-loop
 add-gate-line c = search needs
@@ -54,11 +53,10 @@ add-t23 c = search needs
 
 returns-2 : tie.Need-returns-2 Inv-loop μ-loop
 returns-2 c =
-    let a = c .before .before .before .before .before .before .before .before .args in
     let l = c .before .before .before .before .before .before .loop in
     let f = c .before .before .before .before .find in
     let r = c .before .gate-line in
-    declined (nthGateRefusal (a .inputs)) gateOf (now (a .text)) (a .from) 2 (a .count) 48 (l .gates) (l .j) (l .at) (omega arith) (l .inv) (omega arith) (f .result) (f .ensures) (omega arith) (r .result .number) (r .ensures .0) (c .if2 .taken)
+    declined (l .inv) (omega arith) (omega arith) (f .ensures) (omega arith) (r .ensures .0) (c .if2 .taken)
 
 mul-gates : tie.Need-mul-gates Inv-loop μ-loop
 mul-gates c = search needs
@@ -77,17 +75,13 @@ loop-less c = search needs
 
 loop-again : tie.Need-loop-again Inv-loop μ-loop
 loop-again c =
-    let a = c .before .before .before .before .before .before .before .before .before .args in
     let l = c .before .before .before .before .before .before .before .loop in
     let f = c .before .before .before .before .before .find in
     let r = c .before .before .gate-line in
-    turned (nthGateRefusal (a .inputs)) gateOf (now (a .text)) (a .from) 2 (a .count) 48 (l .gates) (l .j) (l .at) (omega arith) (l .inv) (omega arith) (f .result) (f .ensures) (omega arith) (r .result .number) (r .ensures .0) (r .result .gate) (c .before .if2 .left) (r .ensures .1)
+    turned (l .inv) (omega arith) (omega arith) (f .ensures) (omega arith) (r .ensures .0) (c .before .if2 .left) (r .ensures .1)
 
 returns-3 : tie.Need-returns-3 Inv-loop μ-loop
-returns-3 c =
-    let a = c .before .before .before .args in
-    let l = c .before .loop in
-    finished (nthGateRefusal (a .inputs)) gateOf (now (a .text)) (a .from) 2 (a .count) 48 (l .gates) (l .j) (l .at) (omega arith) (l .inv) (omega arith)
+returns-3 c = finished (c .before .loop .inv) (omega arith) (omega arith)
 
 pub gates-spec : {M : Type 1} → statement M
 gates-spec =

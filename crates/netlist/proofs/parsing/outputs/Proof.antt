@@ -26,10 +26,9 @@ add-t16 c = search needs
 
 returns : tie.Need-returns Inv-loop μ-loop
 returns c =
-    let a = c .before .before .before .before .before .args in
     let l = c .before .before .before .loop in
     let f = c .before .find in
-    missing (nthOutputRefusal (a .top)) outputOf (now (a .text)) (a .from) (a .place) (a .count) 4 (l .outputs) (l .j) (l .at) (omega arith) (l .inv) (omega arith) (f .result) (f .ensures) (omega arith)
+    missing (l .inv) (omega arith) (omega arith) (f .ensures) (omega arith)
 
 sub-output-line : tie.Need-sub-output-line Inv-loop μ-loop
 sub-output-line c = search needs
@@ -48,11 +47,10 @@ add-t21 c = search needs
 
 returns-2 : tie.Need-returns-2 Inv-loop μ-loop
 returns-2 c =
-    let a = c .before .before .before .before .before .before .before .before .args in
     let l = c .before .before .before .before .before .before .loop in
     let f = c .before .before .before .before .find in
     let r = c .before .output-line in
-    declined (nthOutputRefusal (a .top)) outputOf (now (a .text)) (a .from) (a .place) (a .count) 4 (l .outputs) (l .j) (l .at) (omega arith) (l .inv) (omega arith) (f .result) (f .ensures) (omega arith) (r .result .number) (r .ensures .0) (c .if2 .taken)
+    declined (l .inv) (omega arith) (omega arith) (f .ensures) (omega arith) (r .ensures .0) (c .if2 .taken)
 
 mul-outputs : tie.Need-mul-outputs Inv-loop μ-loop
 mul-outputs c = search needs
@@ -71,17 +69,13 @@ loop-less c = search needs
 
 loop-again : tie.Need-loop-again Inv-loop μ-loop
 loop-again c =
-    let a = c .before .before .before .before .before .before .before .before .before .args in
     let l = c .before .before .before .before .before .before .before .loop in
     let f = c .before .before .before .before .before .find in
     let r = c .before .before .output-line in
-    turned (nthOutputRefusal (a .top)) outputOf (now (a .text)) (a .from) (a .place) (a .count) 4 (l .outputs) (l .j) (l .at) (omega arith) (l .inv) (omega arith) (f .result) (f .ensures) (omega arith) (r .result .number) (r .ensures .0) (r .result .output) (c .before .if2 .left) (r .ensures .1)
+    turned (l .inv) (omega arith) (omega arith) (f .ensures) (omega arith) (r .ensures .0) (c .before .if2 .left) (r .ensures .1)
 
 returns-3 : tie.Need-returns-3 Inv-loop μ-loop
-returns-3 c =
-    let a = c .before .before .before .args in
-    let l = c .before .loop in
-    finished (nthOutputRefusal (a .top)) outputOf (now (a .text)) (a .from) (a .place) (a .count) 4 (l .outputs) (l .j) (l .at) (omega arith) (l .inv) (omega arith)
+returns-3 c = finished (c .before .loop .inv) (omega arith) (omega arith)
 
 pub outputs-spec : {M : Type 1} → statement M
 outputs-spec =
