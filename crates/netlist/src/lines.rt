@@ -1,7 +1,7 @@
 // What one line of the circuit text says, with the number by which it is refused, or 0.
 //
-// The numbers of a line are read once and all its tests made on them, and the first test that fails gives the number: which of them are made
-// changes nothing, since what a line says counts only where all pass.
+// A line's numbers are read once, all its tests are made on them, and the first that fails gives the number. What a line says counts only where
+// all pass.
 use crate::Fault;
 use crate::Gate;
 use crate::Head;
@@ -73,6 +73,7 @@ fn numbers(line: &[u8], from: usize, to: usize) -> bool
     true
 }
 
+// Whether it is a line of that word with so many fields, numbers from field `from` on.
 fn is_line(line: &[u8], word: &[u8], from: usize, fields: usize) -> bool
     ensures { λ r. ⌜ r ≡ isLine (now (line .entry)) (now (word .entry)) from fields ⌝ }
 {

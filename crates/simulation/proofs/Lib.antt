@@ -1,4 +1,6 @@
+pub mod Equations
 pub mod LineValues
 pub mod Padding
 pub mod RowBounds
 pub mod RowValues
+pub mod Showing
