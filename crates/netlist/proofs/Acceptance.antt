@@ -180,7 +180,7 @@ abbrev itemsOf : {A : Type 0} → Read A → List A
 itemsOf (items l rest) = l
 itemsOf (refused number place) = []
 
-abbrev isRead : {A : Type 0} → Read A → Bool
+abbrev pub isRead : {A : Type 0} → Read A → Bool
 isRead (items l rest) = true
 isRead (refused number place) = false
 
@@ -233,7 +233,7 @@ module _ {A : Type 0} (refusal : ℕ → List ℕ → ℕ) (item : List ℕ → 
 
 -- the whole text
 
-abbrev isAccepted : Parse → Bool
+abbrev pub isAccepted : Parse → Bool
 isAccepted (accepted n) = true
 isAccepted (rejected number place) = false
 

@@ -17,7 +17,7 @@ use Rattle.netlist.specs.declared.Fault.{Fault}
 use Rattle.netlist.specs.declared.Gate.{Gate}
 use Rattle.netlist.specs.declared.Head.{Head}
 use Rattle.netlist.specs.declared.Output.{Output}
-use Rattle.netlist.proofs.Acceptance.{HeadRight, head-fits}
+use Rattle.netlist.proofs.Acceptance.{isRead, isAccepted, HeadRight, head-fits}
 use Rattle.netlist.proofs.Assembling.{too-long}
 
 -- one line
@@ -52,10 +52,6 @@ numberIn (refused number place) = number
 abbrev placeIn : {A : Type 0} → Read A → ℕ
 placeIn (items l rest) = 0
 placeIn (refused number place) = place
-
-abbrev isRead : {A : Type 0} → Read A → Bool
-isRead (items l rest) = true
-isRead (refused number place) = false
 
 record Among (number place low count : ℕ) : Type 0 where
   number-low : 2 ≤ number
@@ -95,10 +91,6 @@ numberOf (rejected number place) = number
 abbrev placeOf : Parse → ℕ
 placeOf (accepted n) = 0
 placeOf (rejected number place) = place
-
-abbrev isAccepted : Parse → Bool
-isAccepted (accepted n) = true
-isAccepted (rejected number place) = false
 
 pub record OfLine (number place : ℕ) : Type 0 where
   pub number-low : 2 ≤ number

@@ -42,7 +42,7 @@ nthOutputRefusal top j l = outputRefusal top l
 abbrev pub nthFaultRefusal : ℕ → ℕ → List ℕ → ℕ
 nthFaultRefusal top j l = faultRefusal top l
 
--- The lines begin at the text's second.
+-- the gates begin at the text's second line
 unfoldable pub gatesIn : Head → List ℕ → Read Gate
 gatesIn h rest = linesOf (nthGateRefusal (h .inputs)) gateOf (h .gates) 2 rest []
 

@@ -6,7 +6,7 @@
 use mathlib.Core.Path.{_≡_, refl, sym, ap, _∙_, subst}
 use mathlib.Core.List.{List}
 use Prim.Native.Nat.{ℕ, _^_, _<_, _≤_}
-use native.Mathlib.Nat.{le-trans, mul-le-mul, le-refl}
+use native.Mathlib.Nat.{mul-le-mul, le-refl}
 use native.Mathlib.Omega.{arith}
 use lib.IntN.{ℤ}
 use lib.ListN.{length}
@@ -14,6 +14,7 @@ use lib.Pow.{pow-mono}
 use lib.Seq.{length-take-le}
 use borrow.Author.Tests.{lt-ltb, le-ltb, eq-eqb, ne-eqb}
 use Rattle.integer.specs.Tab.{Within}
+use Rattle.integer.proofs.Bounds.{within-more}
 use Rattle.netlist.specs.Circuits.{Netlist, netlistOf, Sized, faultAt}
 use Rattle.netlist.specs.Parsing.{accepted, parseOf, meaning}
 use Rattle.simulation.specs.Rows.{rowsOf}
@@ -25,6 +26,7 @@ use Rattle.netlist.proofs.Assembling.{meant}
 use Rattle.simulation.proofs.RowBounds.{length-rows, rows-within}
 use Rattle.walsh.specs.Answers.{screenOf, inputsOf}
 use Rattle.walsh.specs.Lists.{spectrumAnswer}
+use Rattle.walsh.specs.Spectrum.{spectrumOf}
 use Rattle.walsh.specs.declared.Answer.the-variants.{Refused}
 use Rattle.walsh.proofs.Screens.{inputs-is, within-screened}
 use Rattle.walsh.proofs.Spectra.{within-spectrum}
@@ -35,11 +37,11 @@ rows-bounded n f w = rows-within 15 n f (w .outputs-high) (λ k l. w .outputs-ri
 
 pub coefficients-bounded : (text : List ℕ) (n : Netlist) (fault : ℕ) → parseOf text ≡ accepted n → Within 15360 (faultSpectrum n fault)
 unfolding faultSpectrum
-coefficients-bounded text n fault e x l =
+coefficients-bounded text n fault e =
     let w = well-formed text n e in
-    let f = faultAt n fault in
-    let few : length (rowsOf n f) ≤ 256 = subst (λ k. k ≤ 256) (sym (length-rows n f)) (pow-mono (w .inputs-high)) in
-    le-trans (within-spectrum 60 (rowsOf n f) (rows-bounded n f w) x l) (mul-le-mul few (le-refl 60))
+    let rows = rowsOf n (faultAt n fault) in
+    let few : length rows ≤ 256 = subst (λ k. k ≤ 256) (sym (length-rows n (faultAt n fault))) (pow-mono (w .inputs-high)) in
+    within-more (spectrumOf rows) (mul-le-mul few (le-refl 60)) (within-spectrum 60 rows (rows-bounded n (faultAt n fault) w))
 
 pub spectrum-room : (rows : List ℤ) (k room : ℕ) → 1 ≤ k → k ≤ 8 → length rows ≡ 2 ^ k → Within 1000 rows → spectrumAnswer rows room ≡ roomAnswer k room
 unfolding spectrumAnswer screenOf roomAnswer

@@ -8,7 +8,7 @@ use Prim.Native.Nat.{ℕ, zero, suc, _+_, _<_}
 use native.Mathlib.Nat.{add-zero}
 use native.Mathlib.Numerals.{add-one}
 use native.Mathlib.Omega.{arith}
-use lib.ListN.{length, getD, length-append, List·getD-append}
+use lib.ListN.{length, getD, List·getD-append}
 use lib.Seq.{getD-append-seam}
 use Rattle.integer.proofs.Tabs.{getD-tab}
 use Rattle.netlist.specs.Circuits.{Netlist, noGate}
@@ -16,17 +16,13 @@ use Rattle.netlist.specs.WellFormed.{WellFormed}
 use Rattle.netlist.specs.declared.Fault.{Fault}
 use Rattle.netlist.specs.declared.Gate.{Gate}
 use Rattle.simulation.specs.Rows.{gateValue, shown, applied, inputShown, inputValues, reads, gateNext, gatesNext, lineValues}
-use Rattle.simulation.proofs.LineValues.{length-inputs}
+use Rattle.simulation.proofs.LineValues.{length-inputs, length-next}
 
 -- a gate's value of the lines that it reads in l
 abbrev pub gateIn : List Bool → Gate → Bool
 gateIn l g = gateValue (g .kind) (reads l (g .a)) (reads l (g .b))
 
 module _ (f : Fault) where
-  longer : (l : List Bool) (g : Gate) → length (gateNext f l g) ≡ length l + 1
-  unfolding gateNext
-  longer l g = length-append l (shown f (length l) (gateIn l g) ∷ [])
-
   seam : (l : List Bool) (g : Gate) → reads (gateNext f l g) (length l) ≡ shown f (length l) (gateIn l g)
   unfolding gateNext
   seam l g = getD-append-seam l (shown f (length l) (gateIn l g)) [] _
@@ -36,7 +32,7 @@ module _ (f : Fault) where
   unfolding gatesNext gateNext
   kept [] l i h = refl
   kept (g ∷ gates) l i h =
-      let more : i < length (gateNext f l g) = omega (arith, longer l g) in
+      let more : i < length (gateNext f l g) = omega (arith, length-next f l g) in
       kept gates (gateNext f l g) i more ∙ List·getD-append l (shown f (length l) (gateIn l g) ∷ []) _ i h
 
   nth-gate : (gates : List Gate) (l : List Bool) (j : ℕ) → j < length gates
@@ -46,17 +42,17 @@ module _ (f : Fault) where
   nth-gate [] l j h a b = absurd (omega arith)
   nth-gate (g ∷ gates) l zero h a b =
       let all = gatesNext f (gateNext f l g) gates in
-      let own : length l < length (gateNext f l g) = omega (arith, longer l g) in
+      let own : length l < length (gateNext f l g) = omega (arith, length-next f l g) in
       let same : (i : ℕ) → i < length l + 0 → reads l i ≡ reads all i = λ i k. sym (kept (g ∷ gates) l i (subst (λ n. i < n) (add-zero (length l)) k)) in
       subst (λ n. reads all n ≡ shown f n (gateIn all g)) (sym (add-zero (length l)))
       (kept gates (gateNext f l g) (length l) own
       ∙ seam l g
       ∙ ap (shown f (length l)) (ap₂ (gateValue (g .kind)) (same (g .a) a) (same (g .b) b)))
   nth-gate (g ∷ gates) l (suc j) h a b =
-      let e : length (gateNext f l g) + j ≡ length l + suc j = omega (arith, longer l g) in
+      let e : length (gateNext f l g) + j ≡ length l + suc j = omega (arith, length-next f l g) in
       let all = gatesNext f (gateNext f l g) gates in
       subst (λ n. reads all n ≡ shown f n (gateIn all (getD gates j noGate))) e
-      (nth-gate gates (gateNext f l g) j (omega arith) (omega (arith, longer l g)) (omega (arith, longer l g)))
+      (nth-gate gates (gateNext f l g) j (omega arith) (omega (arith, length-next f l g)) (omega (arith, length-next f l g)))
 
 module _ (n : Netlist) (f : Fault) (x : ℕ) where
   pub input-lines : (i : ℕ) → i < n .inputs → reads (lineValues n f x) (i + 1) ≡ shown f (i + 1) (applied x i)

@@ -1,5 +1,5 @@
 -- The lines of a circuit, one after the other:
---   length-inputs, length-lines, lines-few    how many values there are
+--   length-inputs, length-next, length-lines, lines-few    how many values there are
 --   halved        the next input's bit is the lowest of half the number
 --   input-turn    a loop that writes one input after the other: one turn
 --   gate-turn     a loop that writes one gate after the other: one turn
@@ -48,13 +48,14 @@ module _ (f : Fault) where
   gates-snoc l [] g = refl
   gates-snoc l (h ∷ gates) g = gates-snoc (gateNext f l h) gates g
 
+  pub length-next : (l : List Bool) (g : Gate) → length (gateNext f l g) ≡ length l + 1
+  unfolding gateNext
+  length-next l g = length-append l (shown f (length l) (gateValue (g .kind) (reads l (g .a)) (reads l (g .b))) ∷ [])
+
   pub length-lines : (l : List Bool) (gates : List Gate) → length (gatesNext f l gates) ≡ length l + length gates
-  unfolding gatesNext gateNext
+  unfolding gatesNext
   length-lines l [] = omega arith
-  length-lines l (g ∷ gates) =
-      length-lines (gateNext f l g) gates
-      ∙ ap (λ (n : ℕ). n + length gates) (length-append l (shown f (length l) (gateValue (g .kind) (reads l (g .a)) (reads l (g .b))) ∷ []))
-      ∙ omega arith
+  length-lines l (g ∷ gates) = omega (arith, length-lines (gateNext f l g) gates, length-next l g)
 
   -- what a gate shows on its line, read as the code does: at the slots of an array
   abbrev pub gateShown : List Bool → ℕ → Gate → Bool

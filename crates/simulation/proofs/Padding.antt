@@ -1,5 +1,4 @@
 -- Line values in an array with room to spare:
---   length-padded               the array has 58 places
 --   set-padded                  a store just past the list is one line more
 --   reads-padded, reads-slot    what is read of the array, at a line and at its slot, is what the list shows there
 use mathlib.Core.Path.{_≡_, refl, sym, _∙_}
@@ -9,14 +8,10 @@ use Prim.Native.Nat.{ℕ, zero, suc, _-_, _≤_, _<_}
 use native.Mathlib.Omega.{arith}
 use borrow.Author.Tests.{ltb-false}
 use lib.Dec.{ltb}
-use lib.ListN.{length, set, replicate, length-append, length-replicate, List·getD-eq-default}
+use lib.ListN.{length, set, replicate, length-append, List·getD-eq-default}
 use lib.Seq.{set-append-seam}
 use Rattle.simulation.specs.Rows.{reads}
 use Rattle.simulation.specs.Steps.{padded, slotOf}
-
-pub length-padded : (l : List Bool) → length l ≤ 58 → length (padded l) ≡ 58
-unfolding padded
-length-padded l h = simp (length-append, length-replicate) (omega arith)
 
 pub set-padded : (l : List Bool) (v : Bool) (i : ℕ) → i ≡ length l → length l < 58 → set (padded l) i v ≡ padded (l ++ (v ∷ []))
 unfolding padded

@@ -1,6 +1,6 @@
 -- Laws of the first b of a list and of fields:
 --   index-le         the first b stands within the list or at its end
---   cut-within, cut-before, cut-after, cut-has, cut-none
+--   cut-before, cut-after, cut-has, cut-none
 --                    a scan from `at` that stops at e, the first b from there on: what it cuts off, what it leaves, whether there was a b
 --   field-part, field-within    field k is the part of the list that starts at its index
 --   no-field         where there is no field k it is the empty part at the list's end
@@ -50,9 +50,6 @@ module _ (b : ℕ) (l : List ℕ) (i : ℕ) where
 
 -- a scan from `at` for b that stopped at e
 module _ (b : ℕ) (text : List ℕ) (at e : ℕ) (cut : e ≡ at + indexOf b (drop at text)) where
-  pub cut-within : at ≤ length text → e ≤ length text
-  cut-within h = omega (arith, index-le b (drop at text), length-drop at text)
-
   pub cut-before : take (e - at) (drop at text) ≡ before b (drop at text)
   unfolding before
   cut-before = let m : e - at ≡ indexOf b (drop at text) = omega arith in rw m

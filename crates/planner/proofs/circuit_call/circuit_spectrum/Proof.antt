@@ -3,11 +3,11 @@ use borrow.Author.Needs.{needs}
 use denote.Ref.{now}
 use mathlib.Core.List.{List}
 use mathlib.Core.Path.{_≡_, refl, sym, ap, _∙_}
-use native.Mathlib.Nat.{le-trans}
 use native.Mathlib.Omega.{arith}
 use lib.Dec.{lit≤}
 use lib.IntN.{ℤ}
 use lib.ListN.{length}
+use Rattle.integer.proofs.Bounds.{within-more}
 use Rattle.integer.proofs.Tabs.{length-mapped}
 use Rattle.netlist.specs.Circuits.{netlistOf}
 use Rattle.simulation.specs.Rows.{rowsOf}
@@ -43,7 +43,9 @@ fault-spectrum-requires c κs =
     let a = c .before .before .before .before .before .before .before .before .args in
     let p = c .before .before .before .before .before .before .parse in
     let w = right (now (a .text)) (a .fault) 0 (p .result) (p .ensures .0) (c .before .before .before .before .before .if1 .left) in
-    ((p .ensures .1, w .inputs-low), λ x l. le-trans (rows-bounded (netlistOf (p .result .circuit)) (c .before .fault-at .result) w x l) (lit≤ tt))
+    let n = netlistOf (p .result .circuit) in
+    let f = c .before .fault-at .result in
+    ((p .ensures .1, w .inputs-low), within-more {B = 60} {C = 1000} (rowsOf n f) (lit≤ tt) (rows-bounded n f w))
 
 same-length : tie.Need-same-length
 same-length c = search needs
