@@ -1,4 +1,10 @@
-// Fields, words and numbers of a text. What a line means is the business of other crates.
+// Fields, words and numbers of a text, read and written. What a line means is the business of other crates.
+mod writing;
+
+pub use writing::put;
+pub use writing::put_decimal;
+pub use writing::put_integer;
+pub use writing::put_line;
 ghost use mathlib.Core.Path.{_≡_};
 ghost use Prim.Native.Nat.{_+_, _≤_};
 ghost use lib.ListN.{length, drop};

@@ -1,6 +1,6 @@
 -- The number or its negation, by its sign, is a size that is printed in decimal.
 use borrow.Author.Needs.{needs}
-use Rattle.figure.proofs.Sizes.{widens, negates, size-below, size-above}
+use Rattle.integer.proofs.Sizes.{widens, negates, size-below, size-above}
 use Rattle.figure.proofs.print_number.Statement.{statement}
 use Rattle.figure.proofs.print_number.Tie as tie
 

@@ -1,5 +1,6 @@
--- The size of a 32-bit number, as the casts that print it compute it:
---   widens, negates, size-below, size-above    the number and its negation fit 64 bits, and its size is what is printed
+-- The size of a 32-bit number, as casts compute it:
+--   widens, negates, size-below, size-above    the number and its negation fit 64 bits
+--   size-negated, size-plain                   and its size is what comes out
 use mathlib.Core.Path.{_≡_, sym, ap, _∙_, subst⁻¹}
 use mathlib.Core.Bool.{true, false}
 use Prim.Native.Nat.{zero, suc, _^_, _≤_}
@@ -67,3 +68,12 @@ module _ (z : ℤ) (f : SFits w32 z) where
   size-above e =
       let h = few in
       subst⁻¹ (λ (y : ℤ). T (nonNeg y) × Fits w64 (natAbs y)) plain (above z (ap (λ (y : ℤ). ltZ y (pos 0)) (sym plain) ∙ e), record { fits = omega arith })
+
+  pub size-negated : natAbs (wide (pos 0 -ℤ wide (narrow z))) ≡ natAbs z
+  size-negated = ap natAbs negated ∙ natAbs-neg z
+
+  pub size-plain : natAbs (narrow z) ≡ natAbs z
+  size-plain = ap natAbs plain
+
+  pub sign-plain : ltZ (narrow z) (pos 0) ≡ ltZ z (pos 0)
+  sign-plain = ap (λ (y : ℤ). ltZ y (pos 0)) plain
