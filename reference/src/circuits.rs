@@ -1,8 +1,10 @@
-//! Circuit texts: the paper's, random ones of every size, and ways to damage
-//! them.
+//! Circuit texts: the paper's, random ones of every size, ones whose faults
+//! have chosen labels, and ways to damage them.
 
-use crate::netlist::{KINDS, LINE_LIMIT};
+use crate::netlist::{self, KINDS, LINE_LIMIT};
+use crate::plan::CAP_LIMIT;
 use crate::random::Random;
+use std::collections::BTreeMap;
 
 /// The paper's listing.
 pub const LISTING: &str = "circuit,3,4,1,2,2\n\
@@ -100,12 +102,7 @@ impl Draft {
                 "not" => 0,
                 _ => line_below(random, own),
             };
-            lines.push(vec![
-                "gate".into(),
-                kind.into(),
-                a.to_string(),
-                b.to_string(),
-            ]);
+            lines.push(gate_fields(kind, a, b));
         }
         let mut outputs = Vec::new();
         for _ in 0..sizes.outputs {
@@ -134,6 +131,46 @@ impl Draft {
             text += "\n";
         }
         text.into_bytes()
+    }
+
+    /// The lines of the faults.
+    pub fn faults(&self) -> &[Vec<String>] {
+        &self.lines[self.lines.len() - self.sizes.faults..]
+    }
+
+    /// The same circuit with these lines of faults, and the cap.
+    pub fn with_faults(&self, faults: &[Vec<String>], cap: usize) -> Draft {
+        let sizes = Sizes {
+            faults: faults.len(),
+            cap,
+            ..self.sizes
+        };
+        let kept = self.lines.len() - self.sizes.faults;
+        let mut lines = self.lines[..kept].to_vec();
+        lines[0] = fields("circuit", &sizes.numbers());
+        lines.extend_from_slice(faults);
+        Draft { sizes, lines }
+    }
+
+    pub fn with_cap(&self, cap: usize) -> Draft {
+        self.with_faults(self.faults(), cap)
+    }
+
+    /// The lines of the faults that are not silent.
+    pub fn changing_faults(&self) -> Vec<Vec<String>> {
+        let netlist = netlist::parse(&self.text()).expect("a good circuit");
+        let sound = netlist.rows(0);
+        (1..)
+            .zip(self.faults())
+            .filter(|&(fault, _)| netlist.rows(fault) != sound)
+            .map(|(_, line)| line.clone())
+            .collect()
+    }
+
+    /// The same circuit without its silent faults; none where all are silent.
+    pub fn without_silent(&self) -> Option<Draft> {
+        let changing = self.changing_faults();
+        (!changing.is_empty()).then(|| self.with_faults(&changing, self.sizes.cap))
     }
 
     /// The first field of a line that is a number.
@@ -222,6 +259,278 @@ fn fields(word: &str, numbers: &[usize]) -> Vec<String> {
     let mut fields = vec![word.to_string()];
     fields.extend(numbers.iter().map(usize::to_string));
     fields
+}
+
+fn gate_fields(kind: &str, a: usize, b: usize) -> Vec<String> {
+    vec!["gate".into(), kind.into(), a.to_string(), b.to_string()]
+}
+
+/// A circuit under way, for circuits whose faults have chosen labels: gates
+/// are added one by one, each giving its line.
+#[derive(Clone, Debug)]
+pub struct Sketch {
+    inputs: usize,
+    gates: Vec<Vec<String>>,
+    outputs: Vec<Vec<String>>,
+    faults: Vec<Vec<String>>,
+    /// The lines of the parities so far, by label.
+    parities: BTreeMap<usize, usize>,
+}
+
+impl Sketch {
+    pub fn new(inputs: usize) -> Sketch {
+        Sketch {
+            inputs,
+            gates: Vec::new(),
+            outputs: Vec::new(),
+            faults: Vec::new(),
+            parities: BTreeMap::new(),
+        }
+    }
+
+    /// How many gates can still be added.
+    fn gates_left(&self) -> usize {
+        Sizes::LARGEST.gates - self.gates.len()
+    }
+
+    pub fn gate(&mut self, kind: &str, a: usize, b: usize) -> usize {
+        self.gates.push(gate_fields(kind, a, b));
+        self.inputs + self.gates.len()
+    }
+
+    /// A new line that always shows 0, to be stuck.
+    pub fn zero(&mut self) -> usize {
+        self.gate("xor", 1, 1)
+    }
+
+    /// The parity of the inputs that the label names.
+    pub fn parity(&mut self, label: usize) -> usize {
+        if let Some(&line) = self.parities.get(&label) {
+            return line;
+        }
+        // One gate where a parity is there that differs by one input.
+        let near = (1..=self.inputs).find_map(|input| {
+            let line = self.parities.get(&(label ^ 1 << (input - 1)))?;
+            Some((*line, input))
+        });
+        let highest = (1..=self.inputs).rfind(|input| label & 1 << (input - 1) != 0);
+        let line = match (highest, near) {
+            (None, _) => self.zero(),
+            (Some(input), _) if label.is_power_of_two() => input,
+            (_, Some((line, input))) => self.gate("xor", line, input),
+            (Some(input), None) => {
+                let rest = self.parity(label & !(1 << (input - 1)));
+                self.gate("xor", rest, input)
+            }
+        };
+        self.parities.insert(label, line);
+        line
+    }
+
+    fn draw_parity(&mut self, random: &mut Random) -> usize {
+        self.parity(random.below(1 << self.inputs))
+    }
+
+    /// Gates of the kind that join all the lines.
+    pub fn chain(&mut self, kind: &str, lines: &[usize]) -> usize {
+        let (first, rest) = lines.split_first().expect("a line");
+        rest.iter()
+            .fold(*first, |before, &line| self.gate(kind, before, line))
+    }
+
+    pub fn output(&mut self, line: usize, weight: usize) {
+        self.outputs.push(fields("output", &[line, weight]));
+    }
+
+    /// A fault of lines and values, put in rising order.
+    pub fn fault(&mut self, pairs: &[(usize, usize)]) {
+        let mut pairs = pairs.to_vec();
+        pairs.sort_unstable();
+        let numbers: Vec<usize> = pairs.iter().flat_map(|&(a, b)| [a, b]).collect();
+        self.faults.push(fields("fault", &numbers));
+    }
+
+    pub fn draft(&self, cap: usize) -> Draft {
+        let sizes = Sizes {
+            inputs: self.inputs,
+            gates: self.gates.len(),
+            outputs: self.outputs.len(),
+            faults: self.faults.len(),
+            cap,
+        };
+        let head = vec![fields("circuit", &sizes.numbers())];
+        let lines = [&head, &self.gates, &self.outputs, &self.faults].map(|part| part.as_slice());
+        Draft {
+            sizes,
+            lines: lines.concat(),
+        }
+    }
+
+    /// An output for each label: its parity, complemented when a line of its
+    /// own is stuck at 1. The row values then differ by the parity's sign, so
+    /// that only this label covers the fault.
+    pub fn complemented(inputs: usize, labels: &[usize], weights: &[usize]) -> Sketch {
+        let mut sketch = Sketch::new(inputs);
+        for (&label, &weight) in labels.iter().zip(weights) {
+            let (parity, stuck) = (sketch.parity(label), sketch.zero());
+            let output = sketch.gate("xor", parity, stuck);
+            sketch.output(output, weight);
+            sketch.fault(&[(stuck, 1)]);
+        }
+        sketch
+    }
+
+    /// The same for any number of labels from two outputs of equal weight: a
+    /// line of each label, stuck at 1, puts the parity P into both. Their sum
+    /// was 1 and is 2P then.
+    pub fn paired(inputs: usize, labels: &[usize], weight: usize) -> Sketch {
+        let mut sketch = Sketch::new(inputs);
+        let (mut with, mut without) = (Vec::new(), Vec::new());
+        for &label in labels {
+            let (parity, stuck) = (sketch.parity(label), sketch.zero());
+            let both = sketch.gate("and", stuck, parity);
+            with.push(both);
+            // The line and not the parity.
+            without.push(sketch.gate("xor", stuck, both));
+            sketch.fault(&[(stuck, 1)]);
+        }
+        let first = sketch.chain("xor", &with);
+        let second = sketch.chain("xor", &without);
+        let second = sketch.gate("not", second, 0);
+        sketch.output(first, weight);
+        sketch.output(second, weight);
+        sketch
+    }
+
+    /// One output, the parity of `label`, with a line that adds the parity of
+    /// `other` to it when stuck at 1: these two labels cover the fault.
+    pub fn two_labels(inputs: usize, label: usize, other: usize) -> Sketch {
+        let mut sketch = Sketch::new(inputs);
+        let (own, added) = (sketch.parity(label), sketch.parity(label ^ other));
+        let stuck = sketch.zero();
+        let term = sketch.gate("and", stuck, added);
+        let output = sketch.gate("xor", own, term);
+        sketch.output(output, 1);
+        sketch.fault(&[(stuck, 1)]);
+        sketch
+    }
+
+    /// Outputs that are parities, each with lines that add a product of
+    /// parities to it when stuck: faults of 1, 2, 4, 8 labels, and of their
+    /// joins and differences where several lines are stuck.
+    pub fn draw(random: &mut Random, inputs: usize) -> Sketch {
+        let mut sketch = Sketch::new(inputs);
+        let outputs = match random.below(2) {
+            0 => Sizes::LARGEST.outputs,
+            _ => 1 + random.below(Sizes::LARGEST.outputs),
+        };
+        let weight = 1 + random.below(15);
+        let widest = random.below(4);
+        let mut stuck = Vec::new();
+        for _ in 0..outputs {
+            // An output and a term without factors take 9 gates at most, a
+            // factor 8.
+            if sketch.gates_left() < 14 {
+                break;
+            }
+            let mut output = sketch.draw_parity(random);
+            for _ in 0..1 + random.below(4) {
+                let most = match sketch.gates_left() {
+                    40.. => widest,
+                    30.. => widest.min(1),
+                    14.. => 0,
+                    _ => break,
+                };
+                let line = sketch.zero();
+                stuck.push(line);
+                let mut term = line;
+                for _ in 0..random.below(most + 1) {
+                    let factor = sketch.draw_parity(random);
+                    term = sketch.gate("and", term, factor);
+                }
+                output = sketch.gate("xor", output, term);
+            }
+            let own = 1 + random.below(15);
+            sketch.output(output, if random.once_in(3) { own } else { weight });
+        }
+        for _ in 0..1 + random.below(Sizes::LARGEST.faults) {
+            let count = match random.below(6) {
+                0 => 2,
+                1 => 3,
+                _ => 1,
+            };
+            let mut pairs: Vec<(usize, usize)> = Vec::new();
+            while pairs.len() < count.min(stuck.len()) {
+                let line = match random.below(40) {
+                    0 => 1 + random.below(inputs + sketch.gates.len()),
+                    _ => random.pick(&stuck),
+                };
+                if pairs.iter().all(|pair| pair.0 != line) {
+                    pairs.push((line, usize::from(!random.once_in(20))));
+                }
+            }
+            sketch.fault(&pairs);
+        }
+        sketch
+    }
+}
+
+/// Different labels, each but the first one input away from one before it, so
+/// that their parities take few gates.
+pub fn near_labels(random: &mut Random, inputs: usize, count: usize) -> Vec<usize> {
+    let mut labels = vec![random.below(1 << inputs)];
+    while labels.len() < count {
+        let label = random.pick(&labels) ^ 1 << random.below(inputs);
+        if !labels.contains(&label) {
+            labels.push(label);
+        }
+    }
+    labels
+}
+
+/// A report as long as any can be: a plan of four labels of three digits, and
+/// 32 faults, every coefficient negative with four digits. An output for each
+/// label is its parity; a product of three inputs, added to it by a stuck line,
+/// changes it on an eighth of the rows. There are two such products; what they
+/// change shares only the label itself, and nothing with the other outputs.
+pub fn largest_report() -> Draft {
+    let mut sketch = Sketch::new(8);
+    let products = [[1, 2, 3], [4, 5, 8]].map(|inputs| sketch.chain("and", &inputs));
+    let mut stuck = Vec::new();
+    for label in [128, 160, 192, 224] {
+        let mut output = sketch.parity(label);
+        for product in products {
+            let line = sketch.zero();
+            let term = sketch.gate("and", line, product);
+            output = sketch.gate("xor", output, term);
+            stuck.push(line);
+        }
+        sketch.output(output, 15);
+    }
+    for line in stuck.iter().cycle().take(Sizes::LARGEST.faults) {
+        sketch.fault(&[(*line, 1)]);
+    }
+    sketch.draft(CAP_LIMIT)
+}
+
+/// The longest search: five faults of one label each, at the very end of the
+/// order, so that no four labels do and yet nearly every choice of three might
+/// be completed by those still to come. The other faults have all labels, or all
+/// that leave out input 1.
+pub fn worst_search() -> Draft {
+    let labels = [255, 254, 253, 251, 247];
+    let mut sketch = Sketch::paired(8, &labels, 7);
+    sketch.fault(&[(1, 0)]);
+    for (kind, first) in [("and", 1), ("or", 2)] {
+        let mut line = first;
+        for input in first + 1..=8 {
+            line = sketch.gate(kind, line, input);
+            sketch.fault(&[(line, 0)]);
+            sketch.fault(&[(line, 1)]);
+        }
+        sketch.output(line, first + 1);
+    }
+    sketch.draft(CAP_LIMIT)
 }
 
 /// A line below `bound`, often one of the last, so that circuits go deep.
@@ -431,6 +740,7 @@ pub const DAMAGES: [Damage; 16] = [
 mod tests {
     use super::*;
     use crate::netlist::{parse, Netlist};
+    use crate::plan::{order, Spectra};
 
     fn drawn(random: &mut Random, sizes: Sizes) -> Netlist {
         let text = Draft::draw(random, sizes).text();
@@ -499,6 +809,65 @@ mod tests {
         assert!(twice > 50, "a line was an output twice {twice} times only");
         assert!(counts[1..].iter().all(|&count| count > 1000), "{counts:?}");
         assert!(mixed > 200, "input, inner line and output: {mixed}");
+    }
+
+    /// The labels that cover each fault, in the order.
+    fn covering(draft: &Draft) -> Vec<Vec<usize>> {
+        let spectra = Spectra::of(&parse(&draft.text()).expect("a good circuit"));
+        (0..draft.sizes.faults)
+            .map(|fault| {
+                let mut labels = order(draft.sizes.inputs);
+                labels.retain(|&label| spectra.covers(label, fault));
+                labels
+            })
+            .collect()
+    }
+
+    #[test]
+    fn sketches_have_the_labels_they_are_for() {
+        let mut random = Random::new(9);
+        for inputs in 2..=8 {
+            for _ in 0..5 {
+                let labels = near_labels(&mut random, inputs, 4);
+                let alone: Vec<Vec<usize>> = labels.iter().map(|&label| vec![label]).collect();
+                let sketch = Sketch::complemented(inputs, &labels, &[1, 15, 4, 4]);
+                assert_eq!(covering(&sketch.draft(1)), alone);
+                let sketch = Sketch::paired(inputs, &labels, 5);
+                assert_eq!(covering(&sketch.draft(1)), alone);
+                let sketch = Sketch::two_labels(inputs, labels[0], labels[1]);
+                let found = &covering(&sketch.draft(1))[0];
+                assert_eq!(found.len(), 2);
+                assert!(labels[..2].iter().all(|label| found.contains(label)));
+            }
+        }
+    }
+
+    #[test]
+    fn sketches_are_good_circuits() {
+        let mut random = Random::new(10);
+        for round in 0..2000 {
+            let draft = Sketch::draw(&mut random, 1 + round % 8).draft(CAP_LIMIT);
+            let read = parse(&draft.text()).map(|netlist| netlist.faults.len());
+            assert_eq!(read, Ok(draft.sizes.faults), "{draft:?}");
+        }
+    }
+
+    #[test]
+    fn worst_search_cannot_be_cut_short() {
+        let draft = worst_search();
+        assert_eq!(draft.sizes, Sizes::LARGEST);
+        let covering = covering(&draft);
+        let last = &order(8)[251..];
+        for (fault, labels) in covering.iter().enumerate() {
+            match fault {
+                0..5 => assert_eq!(labels.len(), 1, "fault {}", fault + 1),
+                _ => assert!(labels.len() >= 128, "fault {}", fault + 1),
+            }
+            // The last five labels together cover everything.
+            assert!(labels.iter().any(|label| last.contains(label)));
+        }
+        let alone: Vec<usize> = covering[..5].iter().map(|labels| labels[0]).collect();
+        assert!(last.iter().all(|label| alone.contains(label)), "{alone:?}");
     }
 
     #[test]

@@ -1,19 +1,16 @@
-//! The plain fast transform, for the benchmark: the usual three nested
-//! loops in place, behind the same tests as the list call; and the circuit
-//! call with that transform.
+//! What the benchmark holds the library against: the plain fast transform, the
+//! usual three nested loops in place, behind the same tests as the list call;
+//! and the calls on texts with that transform.
 
 use crate::netlist;
-use crate::walsh::{test_length, test_range, test_room, Refusal, ROW_LIMIT};
+use crate::plan::{order, CAP_LIMIT, WORKING_NUMBERS};
+use crate::report::{lines, refusal_line, REPORT_ROOM};
+use crate::walsh::{refuse, test_length, test_range, test_room, Refusal, ROW_LIMIT};
 
-pub fn spectrum(rows: &[i32], out: &mut [i32]) -> Result<(), Refusal> {
-    test_length(rows)?;
-    test_range(rows, ROW_LIMIT)?;
-    test_room(out.len(), rows.len())?;
-    let out = &mut out[..rows.len()];
-    out.copy_from_slice(rows);
+fn transform(list: &mut [i32]) {
     let mut half = 1;
-    while half < out.len() {
-        for pair in out.chunks_exact_mut(2 * half) {
+    while half < list.len() {
+        for pair in list.chunks_exact_mut(2 * half) {
             let (zeros, ones) = pair.split_at_mut(half);
             for (zero, one) in zeros.iter_mut().zip(ones) {
                 (*zero, *one) = (*zero + *one, *zero - *one);
@@ -21,6 +18,15 @@ pub fn spectrum(rows: &[i32], out: &mut [i32]) -> Result<(), Refusal> {
         }
         half *= 2;
     }
+}
+
+pub fn spectrum(rows: &[i32], out: &mut [i32]) -> Result<(), Refusal> {
+    test_length(rows)?;
+    test_range(rows, ROW_LIMIT)?;
+    test_room(out.len(), rows.len())?;
+    let out = &mut out[..rows.len()];
+    out.copy_from_slice(rows);
+    transform(out);
     Ok(())
 }
 
@@ -29,13 +35,128 @@ pub fn circuit(text: &[u8], fault: u32, out: &mut [i32]) -> Result<(), Refusal> 
     spectrum(&rows, out)
 }
 
+/// The choice of labels: a mask of covered faults for each, in the order, and
+/// the union of the masks from each place on.
+struct Search {
+    masks: Vec<u32>,
+    unions: Vec<u32>,
+}
+
+impl Search {
+    fn new(masks: Vec<u32>) -> Search {
+        let mut unions = masks.clone();
+        for at in (1..unions.len()).rev() {
+            unions[at - 1] |= unions[at];
+        }
+        Search { masks, unions }
+    }
+
+    /// Fills `chosen` with the first places from `from` on that cover what is
+    /// missing.
+    fn choose(&self, from: usize, missing: u32, chosen: &mut [usize]) -> bool {
+        let Some((first, rest)) = chosen.split_first_mut() else {
+            return missing == 0;
+        };
+        if rest.is_empty() {
+            let covers = |mask: &u32| mask & missing == missing;
+            let found = self.masks[from..].iter().position(covers);
+            *first = from + found.unwrap_or(0);
+            return found.is_some();
+        }
+        for at in from..self.masks.len() {
+            if missing & !self.unions[at] != 0 {
+                return false;
+            }
+            *first = at;
+            if self.choose(at + 1, missing & !self.masks[at], rest) {
+                return true;
+            }
+        }
+        false
+    }
+}
+
+/// A plan, the sound rows, and for each fault the spectrum of what it changes
+/// in them, one after the other.
+struct Planned {
+    labels: Vec<usize>,
+    rows: Vec<i32>,
+    changes: Vec<i32>,
+}
+
+fn planned(text: &[u8], working: usize) -> Result<Planned, Refusal> {
+    let netlist = netlist::parse(text)?;
+    test_room(working, WORKING_NUMBERS)?;
+    let rows = netlist.rows(0)?;
+    let mut changes = Vec::with_capacity(netlist.faults.len() * rows.len());
+    for fault in 1..=netlist.faults.len() {
+        let start = changes.len();
+        let faulted = netlist.rows(fault as u32)?;
+        changes.extend(faulted.iter().zip(&rows).map(|(new, old)| new - old));
+        if changes[start..].iter().all(|&change| change == 0) {
+            return refuse(13, fault);
+        }
+        transform(&mut changes[start..]);
+    }
+    let mut by_label = vec![0; rows.len()];
+    for (fault, changes) in changes.chunks_exact(rows.len()).enumerate() {
+        for (mask, &change) in by_label.iter_mut().zip(changes) {
+            *mask |= u32::from(change != 0) << fault;
+        }
+    }
+    let order = order(netlist.inputs);
+    let search = Search::new(order.iter().map(|&label| by_label[label]).collect());
+    let all = u32::MAX >> (32 - netlist.faults.len());
+    let mut chosen = [0; CAP_LIMIT];
+    for size in 1..=netlist.cap {
+        let chosen = &mut chosen[..size];
+        if search.choose(0, all, chosen) {
+            let labels = chosen.iter().map(|&at| order[at]).collect();
+            return Ok(Planned {
+                labels,
+                rows,
+                changes,
+            });
+        }
+    }
+    refuse(14, 0)
+}
+
+pub fn plan(text: &[u8], working: usize) -> Result<Vec<usize>, Refusal> {
+    planned(text, working).map(|planned| planned.labels)
+}
+
+pub fn report(text: &[u8], room: usize, working: usize) -> Result<Vec<u8>, Refusal> {
+    test_room(room, REPORT_ROOM)?;
+    test_room(working, WORKING_NUMBERS)?;
+    let report = match planned(text, working) {
+        Ok(Planned {
+            labels,
+            rows: mut sound,
+            changes,
+        }) => {
+            let length = sound.len();
+            transform(&mut sound);
+            lines(&labels, changes.len() / length, |fault, label| {
+                let change = match fault {
+                    0 => 0,
+                    _ => changes[(fault - 1) * length + label],
+                };
+                sound[label] + change
+            })
+        }
+        Err(refusal) => refusal_line(refusal),
+    };
+    Ok(report.into_bytes())
+}
+
 #[cfg(test)]
 mod tests {
     use super::*;
-    use crate::circuits::{Draft, Sizes};
-    use crate::outcomes::{answer, compare};
+    use crate::circuits::{largest_report, worst_search, Draft, Sizes, Sketch};
+    use crate::outcomes::{answer, compare, Outcomes};
     use crate::random::Random;
-    use crate::walsh;
+    use crate::{plan, report, walsh};
 
     #[test]
     fn equals_the_direct_sums() {
@@ -79,5 +200,46 @@ mod tests {
                 });
             }
         }
+    }
+
+    #[test]
+    fn plans_and_reports_equal_the_yardstick() {
+        let mut random = Random::new(8);
+        let mut outcomes = Outcomes::default();
+        let mut sizes = [0; CAP_LIMIT + 1];
+        for round in 0..1200 {
+            let inputs = 1 + round % 7;
+            let cap = random.pick(&[1, 2, 3, 4, 4, 4]);
+            let draft = Sketch::draw(&mut random, inputs).draft(cap);
+            let draft = match draft.without_silent() {
+                Some(draft) if !random.once_in(8) => draft,
+                _ => draft,
+            };
+            let mut text = draft.text();
+            if random.once_in(20) {
+                text.pop();
+            }
+            let working = WORKING_NUMBERS - usize::from(random.once_in(20));
+            let due = plan::plan(&text, working);
+            assert_eq!(super::plan(&text, working), due, "{draft:?}");
+            let due_report = report::report(&text, REPORT_ROOM, working);
+            let found = super::report(&text, REPORT_ROOM, working);
+            assert_eq!(found, due_report, "{draft:?}");
+            outcomes.note(answer(&due).number);
+            sizes[due.map_or(0, |labels| labels.len())] += 1;
+        }
+        outcomes.assert_seen(&[(0, 500), (2, 20), (8, 20), (13, 50), (14, 50)]);
+        assert!(sizes.iter().all(|&count| count >= 30), "{sizes:?}");
+        let text = worst_search().text();
+        let due = plan::plan(&text, WORKING_NUMBERS);
+        assert_eq!(super::plan(&text, WORKING_NUMBERS), due);
+        let text = largest_report().text();
+        let due = report::report(&text, REPORT_ROOM, WORKING_NUMBERS);
+        let found = super::report(&text, REPORT_ROOM, WORKING_NUMBERS);
+        assert_eq!(found, due);
+        assert_eq!(
+            super::report(&text, REPORT_ROOM - 1, WORKING_NUMBERS),
+            refuse(8, 0)
+        );
     }
 }

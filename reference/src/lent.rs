@@ -1,7 +1,9 @@
 //! A buffer to lend: noise before it, in it and after it, so that a number
-//! written where none is due shows, inside the lent part or beyond it.
+//! written where none is due shows, inside the lent part or beyond it. And a
+//! text to lend, between bytes that would carry it on.
 
-use std::fmt::Debug;
+use crate::random::Random;
+use std::fmt::{self, Debug};
 
 const GUARD: usize = 16;
 
@@ -24,9 +26,15 @@ impl<T: Copy + PartialEq + Debug> Lent<T> {
         &mut self.all[GUARD..GUARD + self.room]
     }
 
+    /// Asserts that every number but the first `free` of the lent part, inside
+    /// it and around it, is what it was.
+    pub fn assert_kept(&self, free: usize, case: fmt::Arguments) {
+        self.assert_holds(&self.all[GUARD..GUARD + free], case);
+    }
+
     /// Asserts that the lent part begins with `written` and that every
     /// other number, inside it and around it, is what it was.
-    pub fn assert_holds(&self, written: &[T], case: std::fmt::Arguments) {
+    pub fn assert_holds(&self, written: &[T], case: fmt::Arguments) {
         assert!(
             written.len() <= self.room,
             "{case}: {} numbers are due in a buffer of {}",
@@ -48,6 +56,51 @@ impl<T: Copy + PartialEq + Debug> Lent<T> {
     }
 }
 
+/// A text in a message: whole when it could be a circuit, else its start.
+pub struct Shown<'a>(pub &'a [u8]);
+
+impl fmt::Display for Shown<'_> {
+    fn fmt(&self, f: &mut fmt::Formatter) -> fmt::Result {
+        let start = &self.0[..self.0.len().min(3000)];
+        write!(f, "{} bytes \"{}\"", self.0.len(), start.escape_ascii())?;
+        if start.len() < self.0.len() {
+            write!(f, " and so on")?;
+        }
+        Ok(())
+    }
+}
+
+/// What stands before and after a lent text.
+const BEFORE: [&[u8]; 5] = [b"", b"\n", b",", b"1", b"gate,and,1,1\n"];
+const AFTER: [&[u8]; 7] = [
+    b"",
+    b"\n",
+    b"0",
+    b",",
+    b",1\n",
+    b"1\nfault,1,0\n",
+    b"fault,1,0\nfault,1,1\n",
+];
+
+/// The text between what is drawn to stand before and after it.
+pub fn surround<'a>(random: &mut Random, text: &'a [u8]) -> [&'a [u8]; 3] {
+    [random.pick(&BEFORE), text, random.pick(&AFTER)]
+}
+
+/// Lends the text between `before` and `after` to `door`, and asserts that
+/// nothing was written there.
+pub fn lend_text<T>(
+    case: fmt::Arguments,
+    [before, text, after]: [&[u8]; 3],
+    door: impl FnOnce(&[u8]) -> T,
+) -> T {
+    let around = [before, text, after].concat();
+    let found = door(&around[before.len()..before.len() + text.len()]);
+    let again = [before, text, after].concat();
+    assert!(around == again, "{case}: the text was written to");
+    found
+}
+
 #[cfg(test)]
 mod tests {
     use super::*;
@@ -65,6 +118,21 @@ mod tests {
         let mut lent = lent();
         lent.part()[..2].copy_from_slice(&[7, 8]);
         lent.assert_holds(&[7, 8], format_args!("two numbers"));
+    }
+
+    #[test]
+    fn free_numbers_may_change() {
+        let mut lent = lent();
+        lent.part()[..2].copy_from_slice(&[7, 8]);
+        lent.assert_kept(2, format_args!("two free numbers"));
+    }
+
+    #[test]
+    #[should_panic(expected = "buffer[1] of 4")]
+    fn a_number_past_the_free_ones_is_seen() {
+        let mut lent = lent();
+        lent.part()[..2].copy_from_slice(&[7, 8]);
+        lent.assert_kept(1, format_args!("one free number"));
     }
 
     #[test]

@@ -7,5 +7,8 @@ pub mod lent;
 pub mod library;
 pub mod netlist;
 pub mod outcomes;
+pub mod plan;
 pub mod random;
+pub mod report;
+pub mod vectors;
 pub mod walsh;

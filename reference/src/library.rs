@@ -26,9 +26,29 @@ pub struct Span {
     pub length: usize,
 }
 
+/// What the plan call gives back: number 0, the set's size and its labels, with
+/// 0 past the size; else the refusal and its place, and 0 in all the rest.
+#[repr(C)]
+#[derive(Clone, Copy, Debug, PartialEq, Eq)]
+pub struct Plan {
+    pub number: u32,
+    pub place: usize,
+    pub size: usize,
+    pub labels: [u32; 4],
+}
+
+/// What the report call gives back: number 0 and how many bytes it wrote, or
+/// number 8 and 0.
+#[repr(C)]
+#[derive(Clone, Copy, Debug, PartialEq, Eq)]
+pub struct Report {
+    pub number: u32,
+    pub length: usize,
+}
+
 /// The C interface itself.
 mod doors {
-    use super::{Answer, Found, Span};
+    use super::{Answer, Found, Plan, Report, Span};
 
     extern "C" {
         pub fn walsh_coefficient(rows: *const i32, rows_len: usize, label: u32) -> Found;
@@ -70,6 +90,20 @@ mod doors {
             out_len: usize,
         ) -> Answer;
         pub fn walsh_field(text: *const u8, text_len: usize, number: usize) -> Span;
+        pub fn walsh_plan(
+            text: *const u8,
+            text_len: usize,
+            work: *mut u32,
+            work_len: usize,
+        ) -> Plan;
+        pub fn walsh_report(
+            text: *const u8,
+            text_len: usize,
+            out: *mut u8,
+            out_len: usize,
+            work: *mut u32,
+            work_len: usize,
+        ) -> Report;
     }
 }
 
@@ -142,4 +176,25 @@ pub fn circuit(text: &[u8], fault: u32, out: &mut [i32]) -> Answer {
 pub fn field(text: &[u8], number: usize) -> Span {
     // SAFETY: pointer and length are those of one live slice.
     unsafe { doors::walsh_field(text.as_ptr(), text.len(), number) }
+}
+
+pub fn plan(text: &[u8], work: &mut [u32]) -> Plan {
+    // SAFETY: each pointer and length are those of one live slice, and only
+    // `work`, which overlaps no other, is written.
+    unsafe { doors::walsh_plan(text.as_ptr(), text.len(), work.as_mut_ptr(), work.len()) }
+}
+
+pub fn report(text: &[u8], out: &mut [u8], work: &mut [u32]) -> Report {
+    // SAFETY: each pointer and length are those of one live slice, and only
+    // `out` and `work`, which overlap no other, are written.
+    unsafe {
+        doors::walsh_report(
+            text.as_ptr(),
+            text.len(),
+            out.as_mut_ptr(),
+            out.len(),
+            work.as_mut_ptr(),
+            work.len(),
+        )
+    }
 }

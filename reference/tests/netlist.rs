@@ -6,13 +6,13 @@ use reference::circuits::{
     with_line, Draft, Sizes, DAMAGES, LISTING, SILENT_FAULT, STUCK_INNER_LINE, STUCK_INPUTS,
     TWO_OUTPUTS, TWO_STUCK_INPUTS,
 };
+use reference::lent::{lend_text, surround, Shown};
 use reference::library::{self, Span};
 use reference::netlist::{self, CIRCUIT_LIMIT, TEXT_LIMIT};
 use reference::outcomes::{compare, written, Outcomes};
 use reference::random::Random;
 use reference::walsh;
 use std::collections::BTreeSet;
-use std::fmt;
 
 const SEED: u64 = 0x4e45_544c_4953_5400;
 
@@ -27,46 +27,6 @@ const PAIRS: &str = "circuit,2,2,2,2,1\n\
 
 /// Fault numbers that no circuit has, some of them 0 or 1 in fewer bits.
 const NO_FAULTS: [u32; 7] = [33, 256, 257, 65_536, 65_537, 1 << 31, u32::MAX];
-
-/// What stands before and after a lent text.
-const BEFORE: [&[u8]; 5] = [b"", b"\n", b",", b"1", b"gate,and,1,1\n"];
-const AFTER: [&[u8]; 7] = [
-    b"",
-    b"\n",
-    b"0",
-    b",",
-    b",1\n",
-    b"1\nfault,1,0\n",
-    b"fault,1,0\nfault,1,1\n",
-];
-
-/// A text in a message: whole when it could be a circuit, else its start.
-struct Shown<'a>(&'a [u8]);
-
-impl fmt::Display for Shown<'_> {
-    fn fmt(&self, f: &mut fmt::Formatter) -> fmt::Result {
-        let start = &self.0[..self.0.len().min(3000)];
-        write!(f, "{} bytes \"{}\"", self.0.len(), start.escape_ascii())?;
-        if start.len() < self.0.len() {
-            write!(f, " and so on")?;
-        }
-        Ok(())
-    }
-}
-
-/// Lends the text between `before` and `after` to `door`, and asserts that
-/// nothing was written there.
-fn lend_text<T>(
-    case: fmt::Arguments,
-    [before, text, after]: [&[u8]; 3],
-    door: impl FnOnce(&[u8]) -> T,
-) -> T {
-    let around = [before, text, after].concat();
-    let found = door(&around[before.len()..before.len() + text.len()]);
-    let again = [before, text, after].concat();
-    assert!(around == again, "{case}: the text was written to");
-    found
-}
 
 /// Both implementations, the noise for lent buffers, how often each outcome
 /// came, and at which lines the text was refused.
@@ -105,13 +65,8 @@ impl Both {
         (number, place)
     }
 
-    /// The text between what is drawn to stand before and after it.
-    fn surround<'a>(&mut self, text: &'a [u8]) -> [&'a [u8]; 3] {
-        [self.random.pick(&BEFORE), text, self.random.pick(&AFTER)]
-    }
-
     fn circuit(&mut self, text: &[u8], fault: u32, room: usize) -> (u32, usize) {
-        let texts = self.surround(text);
+        let texts = surround(&mut self.random, text);
         self.settle(texts, fault, room)
     }
 
@@ -149,7 +104,7 @@ impl Both {
 
     fn field(&mut self, text: &[u8], number: usize) -> Span {
         let case = format_args!("field {number} of {}", Shown(text));
-        let found = lend_text(case, self.surround(text), |text| {
+        let found = lend_text(case, surround(&mut self.random, text), |text| {
             library::field(text, number)
         });
         let (start, length) = netlist::field(text, number);

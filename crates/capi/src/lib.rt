@@ -5,12 +5,14 @@ use walsh::Found;
 ghost use mathlib.Core.Path.{_≡_};
 ghost use lib.ListN.{length};
 ghost use Rattle.planner.specs.CircuitCall.{circuitAnswer, circuitSpectrum};
+ghost use Rattle.planner.specs.PlanCall.{planVerdict, planAnswer, WorkKept};
+ghost use Rattle.planner.specs.ReportCall.{reportAnswer, reportLeft, reportVerdict};
 ghost use Rattle.text.specs.Text.{fieldOf, fieldStart};
 ghost use Rattle.walsh.specs.Answers.{leaves, foundOf};
 ghost use Rattle.walsh.specs.Faults.{stuckOf, stuckAnswer, stuckSpectrumOf, openedAnswer, openedSpectrumOf};
 ghost use Rattle.walsh.specs.Lists.{spectrumAnswer, rowsAnswer, rowsOf};
 ghost use Rattle.walsh.specs.Spectrum.{spectrumOf};
-ghost use Rattle.capi.specs.Replies.{Gives, GivesFound};
+ghost use Rattle.capi.specs.Replies.{Gives, GivesFound, GivesPlan, GivesReport};
 
 // Number 0 where the call is done.
 #[repr(C)]
@@ -25,6 +27,22 @@ pub struct Sum {
     pub number: u32,
     pub value: i32,
     pub place: usize,
+}
+
+// Number 0 with a plan; label places past the size hold 0, and all are 0 with a refusal.
+#[repr(C)]
+pub struct Signature {
+    pub number: u32,
+    pub place: usize,
+    pub size: usize,
+    pub labels: [u32; 4],
+}
+
+// Number 0 and how many bytes were written, or number 8.
+#[repr(C)]
+pub struct Written {
+    pub number: u32,
+    pub bytes: usize,
 }
 
 // A part of a lent text.
@@ -113,6 +131,36 @@ pub extern "C" fn walsh_circuit(text: &[u8], fault: u32, out: &mut [i32]) -> Rep
     ensures { λ r. ⌜ now (out .exit) ≡ leaves (circuitAnswer (now (text .entry)) fault (length (now (out .entry)))) (circuitSpectrum (now (text .entry)) fault) (now (out .entry)) ⌝ }
 {
     reply_to(planner::circuit_spectrum(text, fault, out))
+}
+
+// The plan of the text's circuit.
+#[no_mangle]
+pub extern "C" fn walsh_plan(text: &[u8], work: &mut [u32]) -> Signature
+    ensures { λ r. ⌜ GivesPlan r (planAnswer (now (text .entry)) (length (now (work .entry)))) ⌝ }
+    ensures { λ _. ⌜ WorkKept (planVerdict (now (text .entry)) (length (now (work .entry)))) (now (work .entry)) (now (work .exit)) ⌝ }
+{
+    let p = planner::plan(text, work);
+    let labels = p.labels;
+    Signature {
+        number: p.number,
+        place: p.place,
+        size: p.size,
+        labels,
+    }
+}
+
+// The report on the text, at the front of `out`.
+#[no_mangle]
+pub extern "C" fn walsh_report(text: &[u8], out: &mut [u8], work: &mut [u32]) -> Written
+    ensures { λ r. ⌜ GivesReport r (reportAnswer (now (text .entry)) (length (now (out .entry))) (length (now (work .entry)))) ⌝ }
+    ensures { λ _. ⌜ now (out .exit) ≡ reportLeft (now (text .entry)) (length (now (work .entry))) (now (out .entry)) ⌝ }
+    ensures { λ _. ⌜ WorkKept (reportVerdict (now (text .entry)) (length (now (out .entry))) (length (now (work .entry)))) (now (work .entry)) (now (work .exit)) ⌝ }
+{
+    let r = planner::report(text, out, work);
+    Written {
+        number: r.number,
+        bytes: r.bytes,
+    }
 }
 
 // Field `number` of the text, from 0; at the text's end where there is none.

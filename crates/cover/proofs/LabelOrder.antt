@@ -16,12 +16,13 @@ use lib.Dec.{eqb}
 use lib.ListN.{length, getD, take, set}
 use lib.Seq.{take-suc, take-suc-set, take-all, length-take-le}
 use borrow.Author.Tests.{eqb-true, lt-ltb, le-ltb, ltb-true}
+use Rattle.integer.proofs.Bools.{both}
 use Rattle.cover.specs.Cover.{allBelow}
 use Rattle.cover.specs.Order.{keep, count, withOnes, byOnes, order, below, labelsBelow, before, rising}
 use Rattle.cover.specs.Sets.{has, distinct}
 use Rattle.cover.specs.Steps.{Below}
 use Rattle.cover.proofs.Sets.{keep-sub, sub-distinct}
-use Rattle.cover.proofs.Tests.{both-true, all-each, has-mem, keep-mem, mem-keep}
+use Rattle.cover.proofs.Tests.{all-each, has-mem, keep-mem, mem-keep}
 
 unfoldable pub in-table : ℕ → Bool
 in-table label = has label order
@@ -32,8 +33,8 @@ order-rule = refl
 
 rule-parts : (eqb (length order) 256 ≡ true) × (allBelow in-table 256 ≡ true) × (rising order ≡ true)
 rule-parts =
-    let r = both-true (eqb (length order) 256 && allBelow in-table 256) (rising order) order-rule in
-    let s = both-true (eqb (length order) 256) (allBelow in-table 256) (r .0) in
+    let r = both (eqb (length order) 256 && allBelow in-table 256) (rising order) order-rule in
+    let s = both (eqb (length order) 256) (allBelow in-table 256) (r .0) in
     (s .0, s .1, r .1)
 
 pub order-length : length order ≡ 256

@@ -15,7 +15,7 @@ use lib.Dec.{eqb}
 use lib.ListN.{length, getD, drop, set}
 use lib.Seq.{drop-cons, drop-length, getD-drop, getD-set-same, getD-set-other}
 use borrow.Author.Tests.{eqb-true, eqb-false, not-true}
-use Rattle.integer.proofs.Firsts.{clash}
+use Rattle.integer.proofs.Bools.{clash}
 use Rattle.cover.specs.Order.{count}
 use Rattle.cover.specs.Sets.{setsOf}
 use Rattle.cover.specs.Steps.{bit, without, clears, sought, unionOf, Unions}

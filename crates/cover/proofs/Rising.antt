@@ -14,13 +14,12 @@ use lib.Count.{ones}
 use lib.Dec.{eqb, ltb}
 use lib.ListN.{length}
 use borrow.Author.Tests.{eqb-true, eqb-false, eq-eqb, lt-ltb, ltb-true}
-use Rattle.integer.proofs.Firsts.{clash}
+use Rattle.integer.proofs.Bools.{clash, both, either}
 use Rattle.cover.specs.Order.{below, order, labelsBelow, before, rising}
 use Rattle.cover.specs.Sets.{setsOf, subsequence, precedes}
 use Rattle.cover.proofs.LabelOrder.{order-rising}
 use Rattle.cover.proofs.Sets.{Earliest, keep-sub, sub-mem}
 use Rattle.cover.proofs.Sizes.{sets-length, sets-sub}
-use Rattle.cover.proofs.Tests.{both-true, either-true}
 
 -- The order of two labels.
 
@@ -31,8 +30,8 @@ before-says : (a b : ℕ) → before a b ≡ true → Before a b
 unfolding before
 before-says a b e =
     ⊎-elim (λ h. inl (ltb-true (ones a) (ones b) h))
-    (λ h. let r = both-true (eqb (ones a) (ones b)) (ltb a b) h in inr (eqb-true (ones a) (ones b) (r .0), ltb-true a b (r .1)))
-    (either-true (ltb (ones a) (ones b)) (eqb (ones a) (ones b) && ltb a b) e)
+    (λ h. let r = both (eqb (ones a) (ones b)) (ltb a b) h in inr (eqb-true (ones a) (ones b) (r .0), ltb-true a b (r .1)))
+    (either (ltb (ones a) (ones b)) (eqb (ones a) (ones b) && ltb a b) e)
 
 says-before : (a b : ℕ) → Before a b → before a b ≡ true
 unfolding before
@@ -62,7 +61,7 @@ rising-parts : (x : ℕ) (xs : List ℕ) → rising (x ∷ xs) ≡ true → ((y 
 unfolding rising
 rising-parts x [] e = (λ y m. absurd (List·Memᴰ·not-nil m), refl)
 rising-parts x (z ∷ xs) e =
-    let r = both-true (before x z) (rising (z ∷ xs)) e in
+    let r = both (before x z) (rising (z ∷ xs)) e in
     let s = rising-parts z xs (r .1) in
     (λ y m. ⊎-elim (λ k. ap (before x) k ∙ r .0) (λ n. before-trans x z y (r .0) (s .0 y n)) (List·Memᴰ·cases-cons m), r .1)
 
@@ -73,11 +72,11 @@ sub-rising (x ∷ xs) [] e r = clash (sym e)
 sub-rising (x ∷ xs) (l ∷ ls) e r =
     let s = rising-parts l ls r in
     ⊎-elim
-    (λ h. let k = both-true (eqb l x) (subsequence xs ls) h in
+    (λ h. let k = both (eqb l x) (subsequence xs ls) h in
     let same = eqb-true l x (k .0) in
     rising-cons x xs (λ y m. subst (λ (z : ℕ). before z y ≡ true) same (s .0 y (sub-mem xs ls (k .1) y m))) (sub-rising xs ls (k .1) (s .1)))
     (λ h. sub-rising (x ∷ xs) ls h (s .1))
-    (either-true (eqb l x && subsequence xs ls) (subsequence (x ∷ xs) ls) e)
+    (either (eqb l x && subsequence xs ls) (subsequence (x ∷ xs) ls) e)
 
 pub labels-rising : (n : ℕ) → rising (labelsBelow n) ≡ true
 unfolding labelsBelow

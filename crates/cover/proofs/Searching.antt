@@ -13,7 +13,7 @@ use native.Mathlib.Omega.{arith}
 use lib.Dec.{eqb}
 use lib.ListN.{length, length-map, getD}
 use borrow.Author.Tests.{not-true, not-false}
-use Rattle.integer.proofs.Firsts.{clash}
+use Rattle.integer.proofs.Bools.{both}
 use Rattle.cover.specs.Order.{count}
 use Rattle.cover.specs.Sets.{setsOf, firstOf, orElse, planFrom, upTo}
 use Rattle.cover.specs.Steps.{without, clears, sought, namedOf, labelsAt, choiceOf, setAt}
@@ -106,10 +106,6 @@ module _ (masks : List ℕ) (i : ℕ) where
             go : (o : Option (List ℕ)) → Nothing ≡ choiceOf labels o → orElse (push i o) (sought masks (i + 1) k m) ≡ sought masks (i + 1) k m
             go none h = refl
             go (some is) h = let z : _≡_ {A = ℕ} 0 1 = cc in absurd (omega arith)
-
-both : (a b : Bool) → (a && b) ≡ true → (a ≡ true) × (b ≡ true)
-both true b e = (refl, e)
-both false b e = clash (sym e)
 
 pub four-lacked : (masks : List ℕ) (i m : ℕ) (a b c d : Bool) → i + 4 ≤ length masks → a ≡ not (eqb (without m (getD masks i 0)) 0)
     → b ≡ not (eqb (without m (getD masks (i + 1) 0)) 0) → c ≡ not (eqb (without m (getD masks (i + 2) 0)) 0)

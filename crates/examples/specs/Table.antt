@@ -1,19 +1,22 @@
--- Document 01's examples marked •, those on lists and those that are values of a circuit's coefficients, as one table. A case says what a call
--- leaves for it, through the definitions that the calls' promises cite; cases of plans and reports join as further constructors.
+-- Document 01's examples marked • as one table. A case says what a call answers and leaves for it, through the definitions that the calls'
+-- promises cite.
 use Prim.Native.Nat.{ℕ, _^_}
 use mathlib.Core.Path.{_≡_}
 use mathlib.Core.List.{List, [], _∷_}
 use lib.IntN.{ℤ, pos}
-use lib.ListN.{length, replicate}
+use lib.ListN.{length, replicate, take}
 use Rattle.integer.specs.Tab.{nth}
 use Rattle.planner.specs.CircuitCall.{circuitAnswer, circuitSpectrum}
+use Rattle.planner.specs.PlanCall.{planned, refused, workDue, planNumbers, planAnswer}
+use Rattle.planner.specs.ReportCall.{bytesDue, reportAnswer, reportLeft}
+use Rattle.planner.specs.declared.Reported.{Reported}
 use Rattle.walsh.specs.Answers.{minus, leaves, foundOf}
 use Rattle.walsh.specs.Lists.{spectrumAnswer, rowsAnswer, rowsOf}
 use Rattle.walsh.specs.Spectrum.{coefficientOf, spectrumOf}
 use Rattle.walsh.specs.Faults.{stuckOf, stuckAnswer, stuckSpectrumOf, stuckRows, keptInputs, openedAnswer, openedSpectrumOf, openedRows}
 use Rattle.walsh.specs.declared.Found.the-variants.{Coefficient}
 use Rattle.examples.specs.Functions.{figure, productOrInput, selected, gated, gatedOpened}
-use Rattle.examples.specs.Texts.{productOrInputText, gatedText, listing}
+use Rattle.examples.specs.Texts.{productOrInputText, gatedText, listing, listingReport, silentText, silentReport, pairText}
 
 pub data Case : Type 0 where
   -- rows and their whole spectrum
@@ -28,6 +31,12 @@ pub data Case : Type 0 where
   circuit : List ℕ → ℕ → List ℤ → Case
   -- a circuit's text, the number of its rows, that of a fault and the sum of the rows under it
   total : List ℕ → ℕ → ℕ → ℤ → Case
+  -- a circuit's text and its plan
+  plan : List ℕ → List ℕ → Case
+  -- a circuit's text and the number and place by which its plan is refused
+  noPlan : List ℕ → ℕ → ℕ → Case
+  -- a circuit's text and its report
+  report : List ℕ → List ℕ → Case
 
 -- a result that is lent, of n numbers
 abbrev pub lent : ℕ → List ℤ
@@ -49,6 +58,13 @@ openedLeft c values = leaves (openedAnswer c values (2 ^ keptInputs c values)) (
 abbrev pub circuitLeft : List ℕ → ℕ → ℕ → List ℤ
 circuitLeft text fault room = leaves (circuitAnswer text fault room) (circuitSpectrum text fault) (lent room)
 
+-- with as many bytes and working numbers as are due
+abbrev pub reported : List ℕ → Reported
+reported text = reportAnswer text bytesDue workDue
+
+abbrev pub reportBytes : List ℕ → List ℕ
+reportBytes text = take (reported text .bytes) (reportLeft text workDue (replicate bytesDue 0))
+
 -- what a case says: of the call, and under a fault of the sum over the faulted rows too
 abbrev pub Holds : Case → Type 0
 Holds (whole rows coefficients) = (spectrumLeft rows ≡ coefficients) × (rowsLeft coefficients ≡ rows)
@@ -57,6 +73,9 @@ Holds (stuck rows inputs values z) = (nth (stuckLeft (spectrumOf rows) inputs va
 Holds (opened rows values z) = (nth (openedLeft (spectrumOf rows) values) 0 ≡ z) × (coefficientOf (openedRows (keptInputs rows values) values rows) 0 ≡ z)
 Holds (circuit text fault coefficients) = circuitLeft text fault (length coefficients) ≡ coefficients
 Holds (total text rows fault z) = nth (circuitLeft text fault rows) 0 ≡ z
+Holds (plan text labels) = planAnswer text workDue ≡ planNumbers (planned labels)
+Holds (noPlan text number place) = planAnswer text workDue ≡ planNumbers (refused number place)
+Holds (report text bytes) = (reported text .number ≡ 0) × (reportBytes text ≡ bytes)
 
 abbrev pub Every : (Case → Type 0) → List Case → Type 0
 Every P [] = Unit {0}
@@ -100,4 +119,13 @@ table =
     ∷ circuit listing 0 (pos 4 ∷ minus 2 ∷ pos 0 ∷ pos 2 ∷ minus 2 ∷ pos 0 ∷ minus 2 ∷ pos 0 ∷ [])
     ∷ circuit listing 1 (pos 4 ∷ pos 0 ∷ pos 0 ∷ pos 0 ∷ minus 4 ∷ pos 0 ∷ pos 0 ∷ pos 0 ∷ [])
     ∷ circuit listing 2 (pos 4 ∷ minus 4 ∷ pos 0 ∷ pos 0 ∷ pos 0 ∷ pos 0 ∷ pos 0 ∷ pos 0 ∷ [])
+    -- "It writes `plan,1`, `label,1,-2`, `fault,1,1,0`, `fault,2,1,-4`, a line each."
+    ∷ plan listing (1 ∷ [])
+    ∷ report listing listingReport
+    -- "fault 3 at 0: 13, place 1"
+    ∷ noPlan silentText 13 1
+    ∷ report silentText silentReport
+    -- "faults 3 at 1 and 4 at 1: 14. With cap 2: labels 1 and 2."
+    ∷ noPlan (pairText "circuit,2,4,2,2,1") 14 0
+    ∷ plan (pairText "circuit,2,4,2,2,2") (1 ∷ 2 ∷ [])
     ∷ []

@@ -58,3 +58,29 @@ listing =
     ∷ "fault,2,0"
     ∷ "fault,2,1"
     ∷ [])
+
+-- what `signature` writes for it
+unfoldable pub listingReport : List ℕ
+listingReport = textOf ("plan,1" ∷ "label,1,-2" ∷ "fault,1,1,0" ∷ "fault,2,1,-4" ∷ [])
+
+-- x1 + x1x2, whose product at 0 changes nothing
+unfoldable pub silentText : List ℕ
+silentText = textOf ("circuit,2,2,1,1,1" ∷ "gate,and,1,2" ∷ "gate,or,1,3" ∷ "output,4,1" ∷ "fault,3,0" ∷ [])
+
+unfoldable pub silentReport : List ℕ
+silentReport = textOf ("refused,13,1" ∷ [])
+
+-- two inputs, each through a line that is always 0 and is feared to be 1
+unfoldable pub pairText : String → List ℕ
+pairText head =
+    textOf
+    (head
+    ∷ "gate,xor,1,1"
+    ∷ "gate,xor,1,1"
+    ∷ "gate,xor,1,3"
+    ∷ "gate,xor,2,4"
+    ∷ "output,5,1"
+    ∷ "output,6,1"
+    ∷ "fault,3,1"
+    ∷ "fault,4,1"
+    ∷ [])

@@ -1,3 +1,4 @@
+pub mod Bools
 pub mod Group
 pub mod Bounds
 pub mod Sums

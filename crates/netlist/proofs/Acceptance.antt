@@ -15,7 +15,7 @@ use lib.ListN.{length, getD, length-append, List·getD-append}
 use lib.Seq.{getD-append-seam}
 use borrow.Author.Tests.{ltb-true, leb-true, eqb-true, lt-leb}
 use Rattle.text.specs.Text.{before, after, lineEnd, indexOf, fieldOf, fieldCount, numberOf, wellFormed}
-use Rattle.text.proofs.Decimals.{both}
+use Rattle.integer.proofs.Bools.{both}
 use Rattle.text.proofs.Parts.{no-field}
 use Rattle.netlist.specs.Circuits.{Netlist, noGate, noOutput, sound}
 use Rattle.netlist.specs.Lines.{unless, refusalOf, inRange, valueAt, isLine, fits, faultWord, isHead, headFits, headRefusal, headOf, kindOf, secondFits, isGate, gateFits, readsBelow, gateRefusal, gateOf, isOutput, outputFits, outputRefusal, outputOf, isFault, pairInRange, pairFits, faultFits, linesExist, risesAt, linesRise, faultRefusal, stuckAt, faultOf}

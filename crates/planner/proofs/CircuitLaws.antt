@@ -1,6 +1,6 @@
 -- The circuit call:
 --   coefficients-bounded    every coefficient of an accepted circuit, sound or under a fault, is from -15,360 to 15,360
---   rows-bounded            its row values are from -60 to 60
+--   rows-bounded, rows-in-range    its row values are from -60 to 60, within the list call's range
 --   spectrum-room           the list call on such rows refuses by 8 only
 --   text-stop, fault-stop, served    the call's answer and what it leaves, by the parser's answer
 use mathlib.Core.Path.{_≡_, refl, sym, ap, _∙_, subst}
@@ -8,6 +8,7 @@ use mathlib.Core.List.{List}
 use Prim.Native.Nat.{ℕ, _^_, _<_, _≤_}
 use native.Mathlib.Nat.{mul-le-mul, le-refl}
 use native.Mathlib.Omega.{arith}
+use lib.Dec.{lit≤}
 use lib.IntN.{ℤ}
 use lib.ListN.{length}
 use lib.Pow.{pow-mono}
@@ -35,13 +36,18 @@ use Rattle.planner.specs.CircuitCall.{roomAnswer, faultAnswer, circuitAn
 pub rows-bounded : (n : Netlist) (f : Fault) → WellFormed n → Within 60 (rowsOf n f)
 rows-bounded n f w = rows-within 15 n f (w .outputs-high) (λ k l. w .outputs-right k l .weight-high)
 
+pub rows-in-range : (n : Netlist) (f : Fault) → WellFormed n → Within 1000 (rowsOf n f)
+rows-in-range n f w = within-more {B = 60} {C = 1000} (rowsOf n f) (lit≤ tt) (rows-bounded n f w)
+
+pub spectrum-bounded : (n : Netlist) (f : Fault) → WellFormed n → Within 15360 (spectrumOf (rowsOf n f))
+spectrum-bounded n f w =
+    let rows = rowsOf n f in
+    let few : length rows ≤ 256 = subst (λ k. k ≤ 256) (sym (length-rows n f)) (pow-mono (w .inputs-high)) in
+    within-more (spectrumOf rows) (mul-le-mul few (le-refl 60)) (within-spectrum 60 rows (rows-bounded n f w))
+
 pub coefficients-bounded : (text : List ℕ) (n : Netlist) (fault : ℕ) → parseOf text ≡ accepted n → Within 15360 (faultSpectrum n fault)
 unfolding faultSpectrum
-coefficients-bounded text n fault e =
-    let w = well-formed text n e in
-    let rows = rowsOf n (faultAt n fault) in
-    let few : length rows ≤ 256 = subst (λ k. k ≤ 256) (sym (length-rows n (faultAt n fault))) (pow-mono (w .inputs-high)) in
-    within-more (spectrumOf rows) (mul-le-mul few (le-refl 60)) (within-spectrum 60 rows (rows-bounded n (faultAt n fault) w))
+coefficients-bounded text n fault e = spectrum-bounded n (faultAt n fault) (well-formed text n e)
 
 pub spectrum-room : (rows : List ℤ) (k room : ℕ) → 1 ≤ k → k ≤ 8 → length rows ≡ 2 ^ k → Within 1000 rows → spectrumAnswer rows room ≡ roomAnswer k room
 unfolding spectrumAnswer screenOf roomAnswer

@@ -5,7 +5,7 @@
 --   digit-low, digit-high, digit-step, digit-end             what one turn of the loop over the digits shows
 --   ten-le       powers of ten grow
 use mathlib.Core.Path.{_≡_, refl}
-use mathlib.Core.Bool.{Bool, true, false, not, cond, _&&_, _||_, false≢true}
+use mathlib.Core.Bool.{Bool, true, false, not, cond, _&&_, _||_}
 use mathlib.Core.List.{List, [], _∷_}
 use mathlib.Core.Logic.{_⊎_, inl, inr}
 use Prim.Native.Nat.{ℕ, _+_, _-_, _*_, _^_, _<_, _≤_}
@@ -14,14 +14,11 @@ use native.Mathlib.Omega.{arith}
 use lib.ListN.{length, drop, getD, drop-of-length-le}
 use lib.Dec.{eqb, leb, lit<}
 use borrow.Author.Tests.{eq-eqb, ne-eqb, le-leb, lt-leb, leb-true}
+use Rattle.integer.proofs.Bools.{both}
 use Rattle.text.specs.declared.Number.{Number}
 use Rattle.text.specs.declared.Number.the-variants.{Value, Bad}
 use Rattle.text.specs.Text.{digits, decimalFrom, wellFormed, numberOf}
 use Rattle.text.proofs.Parts.{step}
-
-pub both : (a b : Bool) → (a && b) ≡ true → (a ≡ true) × (b ≡ true)
-both true b e = (refl, e)
-both false b e = absurd (false≢true e)
 
 pub and-false : (a : Bool) → (a && false) ≡ false
 and-false true = refl

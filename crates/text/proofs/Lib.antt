@@ -1,4 +1,5 @@
 pub mod Decimals
 pub mod Parts
+pub mod ReadBack
 pub mod Words
 pub mod Writings

@@ -3,12 +3,14 @@
 --   placed-turn      one byte more
 --   decimal-one, decimal-more    a number by its last digit
 --   decimal-length, integer-length    a number below 10^k has at most k digits
---   gather-length, gather-le     texts one behind the other
-use mathlib.Core.Path.{_≡_, refl, sym, ap, _∙_, subst}
+--   gather-length, gather-le, gather-ext    texts one behind the other
+--   none-written, text-more, all-written    writing them, one more at a time
+--   line-one, line-two, line-three          how long a line is, by its numbers
+use mathlib.Core.Path.{_≡_, refl, sym, ap, ap₂, _∙_, subst}
 use mathlib.Core.Bool.{Bool, true, false, cond}
 use mathlib.Core.List.{List, [], _∷_, _++_, append-assoc}
 use Prim.Native.Nat.{ℕ, zero, suc, _+_, _-_, _*_, _/_, _^_, _<_, _≤_}
-use native.Mathlib.Nat.{pow-suc}
+use native.Mathlib.Nat.{pow-suc, mul-le-mul, le-refl}
 use native.Mathlib.Omega.{arith}
 use lib.Dec.{ltb}
 use lib.IntN.{ℤ, pos, natAbs}
@@ -98,6 +100,9 @@ placed-front new out = ap (λ (k : ℕ). new ++ drop k out) (plain (length new))
 
 -- ---- numbers
 
+pub tenth : (n k : ℕ) → 10 ≤ n → n < suc k → n / 10 < k
+tenth n k l h = omega arith
+
 -- `most` and `more` are both enough
 enough : (most more n : ℕ) → n < most → n < more → decimalTo most n ≡ decimalTo more n
 unfolding decimalTo
@@ -105,9 +110,6 @@ enough zero more n h k = absurd (omega arith)
 enough (suc most) zero n h k = absurd (omega arith)
 enough (suc most) (suc more) n h k = go (ltb n 10) refl (λ l. enough most more (n / 10) (tenth n most l h) (tenth n more l k))
   where
-    tenth : (n k : ℕ) → 10 ≤ n → n < suc k → n / 10 < k
-    tenth n k l h = omega arith
-
     go : (t : Bool) → ltb n 10 ≡ t → (10 ≤ n → decimalTo most (n / 10) ≡ decimalTo more (n / 10))
         → cond t (digit n ∷ []) (decimalTo most (n / 10) ++ (digit n ∷ [])) ≡ cond t (digit n ∷ []) (decimalTo more (n / 10) ++ (digit n ∷ []))
     go true e ih = refl
@@ -237,7 +239,7 @@ gather-le f i (suc n) h = go (ltb n i) refl (λ l. gather-le f i n l)
         let b = length-append (gather f n) (f n) in
         omega (arith, a, b)
 
--- one text more, where all of them have room
+-- one text more
 pub gather-step : (f : ℕ → List ℕ) (i : ℕ) → gather f (i + 1) ≡ gather f i ++ f i
 unfolding gather
 gather-step f i = ap (gather f) (next i)
@@ -245,99 +247,127 @@ gather-step f i = ap (gather f) (next i)
     next : (n : ℕ) → n + 1 ≡ suc n
     next n = omega arith
 
--- writing the numbers of a line: `now` holds the first i of them
-module _ (at : ℕ) (numbers : List ℤ) (out : List ℕ) (fits : at + length (numbersOf numbers) ≤ length out) where
-  abbrev so-far : ℕ → List ℕ
-  so-far i = gather (numberField numbers) i
+pub gather-ext : (f g : ℕ → List ℕ) (n : ℕ) → ((i : ℕ) → i < n → f i ≡ g i) → gather f n ≡ gather g n
+unfolding gather
+gather-ext f g zero h = refl
+gather-ext f g (suc n) h = ap₂ _++_ (gather-ext f g n (λ i l. h i (omega (arith, l)))) (h n (omega arith))
 
-  pub no-number : out ≡ placed at (so-far 0) out
+-- writing n texts one behind the other: `now` holds the first i of them, and `end` is where they end
+abbrev pub Written : ℕ → (ℕ → List ℕ) → ℕ → List ℕ → ℕ → List ℕ → ℕ → Type 0
+Written at f n out i now end = (i ≤ n) × (now ≡ placed at (gather f i) out) × (end ≡ at + length (gather f i))
+
+module _ (at : ℕ) (f : ℕ → List ℕ) (n : ℕ) (out : List ℕ) (fits : at + length (gather f n) ≤ length out) where
+  pub none-written : Written at f n out 0 out at
   unfolding gather
-  no-number = sym (placed-none at out)
+  none-written = (omega arith, sym (placed-none at out), omega arith)
 
-  pub no-number-end : at ≡ at + length (so-far 0)
-  unfolding gather
-  no-number-end = omega arith
+  module _ {i : ℕ} {now : List ℕ} {end : ℕ} (w : Written at f n out i now end) where
+    pub as-long : length now ≡ length out
+    as-long = let l = gather-le f i n (w .0) in ap length (w .1) ∙ length-placed at (gather f i) out (omega (arith, l, fits))
 
-  pub all-numbers : (i : ℕ) → i ≡ length numbers → so-far i ≡ numbersOf numbers
-  unfolding numbersOf
-  all-numbers i h = ap so-far h
+    pub all-written : n ≤ i → (end ≡ at + length (gather f n)) × (now ≡ placed at (gather f n) out)
+    all-written h =
+        let e : i ≡ n = omega (arith, h, w .0) in
+        (w .2 ∙ ap (λ (k : ℕ). at + length (gather f k)) e, w .1 ∙ ap (λ (k : ℕ). placed at (gather f k) out) e)
 
-  -- what is still to come has room
-  room-to : (i : ℕ) → i ≤ length numbers → at + length (so-far i) ≤ length out
-  unfolding numbersOf
-  room-to i h = let l = gather-le (numberField numbers) i (length numbers) h in omega (arith, l, fits)
+    module _ (h : i < n) where
+      next-long : length (gather f (i + 1)) ≡ length (gather f i) + length (f i)
+      next-long = ap length (gather-step f i) ∙ length-append (gather f i) (f i)
 
-  module _ (i : ℕ) (now : List ℕ) (end : ℕ) (e : now ≡ placed at (so-far i) out) (f : end ≡ at + length (so-far i)) where
-    pub as-long : i ≤ length numbers → length now ≡ length out
-    as-long h = ap length e ∙ length-placed at (so-far i) out (room-to i h)
+      next-room : at + length (gather f i) + length (f i) ≤ length out
+      next-room = let l = gather-le f (i + 1) n (omega (arith, h)) in omega (arith, next-long, l, fits)
 
-    module _ (h : i < length numbers) where
-      next : so-far (i + 1) ≡ so-far i ++ (comma ∷ []) ++ integerOf (nth numbers i)
-      unfolding numberField
-      next = gather-step (numberField numbers) i ∙ sym (append-assoc (so-far i) (comma ∷ []) (integerOf (nth numbers i)))
+      pub text-room : end + length (f i) ≤ length now
+      text-room = let n = as-long in omega (arith, next-room, w .2, n)
 
-      comma-long : length (so-far i ++ (comma ∷ [])) ≡ length (so-far i) + 1
-      comma-long = length-append (so-far i) (comma ∷ [])
+      pub text-more : {r : ℕ} {new : List ℕ} → (r ≡ end + length (f i)) × (new ≡ placed end (f i) now) → Written at f n out (i + 1) new r
+      text-more k = (
+        omega (arith, h),
+        k .1 ∙ placed-more at (gather f i) (f i) out now end (w .1) (w .2) next-room ∙ ap (λ (b : List ℕ). placed at b out) (sym (gather-step f i)),
+        omega (arith, next-long, k .0, w .2),
+      )
 
-      next-long : length (so-far (i + 1)) ≡ length (so-far i) + 1 + length (integerOf (nth numbers i))
-      next-long =
-          ap length next
-          ∙ length-append (so-far i ++ (comma ∷ [])) (integerOf (nth numbers i))
-          ∙ ap (λ (k : ℕ). k + length (integerOf (nth numbers i))) comma-long
+-- where none is longer than B
+module _ (B at : ℕ) (f : ℕ → List ℕ) (n : ℕ) (out : List ℕ) (each : (i : ℕ) → i < n → length (f i) ≤ B) (room : at + n * B ≤ length out) where
+  pub all-fit : at + length (gather f n) ≤ length out
+  all-fit = let l = gather-length B f n each in omega (arith, l, room)
 
-      next-room : at + length (so-far i) + 1 + length (integerOf (nth numbers i)) ≤ length out
-      next-room = let r = room-to (i + 1) (omega (arith, h)) in omega (arith, next-long, r)
+  pub next-fits : {i : ℕ} {now : List ℕ} {end : ℕ} → Written at f n out i now end → i < n → end + B ≤ length now
+  next-fits {i} w h =
+      let l = gather-length B f i (λ j k. each j (omega (arith, k, h))) in
+      let e = as-long at f n out all-fit w in
+      let m : (i + 1) * B ≤ n * B = mul-le-mul (omega (arith, h)) (le-refl B) in
+      omega (arith, l, e, w .2, m, room)
 
-      pub comma-room : end < length now
-      comma-room = let n = as-long (omega (arith, h)) in omega (arith, next-room, f, n)
+-- a number with the comma before it
+module _ (numbers : List ℤ) (i : ℕ) (now : List ℕ) (end : ℕ) (fits : end + length (numberField numbers i) ≤ length now) where
+  pub comma-room : end < length now
+  unfolding numberField
+  comma-room = omega (arith, fits)
 
-      pub number-room : end + 1 + length (integerOf (nth numbers i)) ≤ length (set now end comma)
-      number-room = let k = length-set now end comma in let n = as-long (omega (arith, h)) in omega (arith, next-room, k, n, f)
+  pub number-room : end + 1 + length (integerOf (nth numbers i)) ≤ length (set now end comma)
+  unfolding numberField
+  number-room = omega (arith, fits, length-set now end comma)
 
-      pub number-written : placed (end + 1) (integerOf (nth numbers i)) (set now end comma) ≡ placed at (so-far (i + 1)) out
-      number-written =
-          placed-more at (so-far i ++ (comma ∷ [])) (integerOf (nth numbers i)) out (set now end comma) (end + 1)
-          (placed-turn at comma (so-far i) out now end e f (omega (arith, next-room)))
-          (omega (arith, comma-long, f))
-          (omega (arith, next-room, comma-long))
-          ∙ ap (λ (b : List ℕ). placed at b out) (sym next)
+  pub number-written : {r : ℕ} {new : List ℕ}
+      → (r ≡ end + 1 + length (integerOf (nth numbers i))) × (new ≡ placed (end + 1) (integerOf (nth numbers i)) (set now end comma))
+      → (r ≡ end + length (numberField numbers i)) × (new ≡ placed end (numberField numbers i) now)
+  unfolding numberField
+  number-written k =
+      (omega (arith, k .0), k .1 ∙ placed-more end (comma ∷ []) (integerOf (nth numbers i)) now (set now end comma) (end + 1) (placed-one end comma now comma-room) refl (omega (arith, fits)))
 
-      pub number-end : (r : ℕ) → r ≡ end + 1 + length (integerOf (nth numbers i)) → r ≡ at + length (so-far (i + 1))
-      number-end r k = omega (arith, next-long, k, f)
+-- ---- lines
+
+pub line-long : (word : List ℕ) (numbers : List ℤ) → length (lineOf word numbers) ≡ length word + length (numbersOf numbers) + 1
+unfolding lineOf
+line-long word numbers =
+    ap length (sym (append-assoc word (numbersOf numbers) (lineEnd ∷ [])))
+    ∙ length-append (word ++ numbersOf numbers) (lineEnd ∷ [])
+    ∙ ap (λ (k : ℕ). k + 1) (length-append word (numbersOf numbers))
+
+-- a line of one, two and three numbers
+pub line-one : (word : List ℕ) (a : ℤ) → length (lineOf word (a ∷ [])) ≡ length word + length (integerOf a) + 2
+unfolding numbersOf gather numberField
+line-one word a = omega (arith, line-long word (a ∷ []))
+
+pub line-two : (word : List ℕ) (a b : ℤ) → length (lineOf word (a ∷ b ∷ [])) ≡ length word + length (integerOf a) + length (integerOf b) + 3
+unfolding numbersOf gather numberField
+line-two word a b = omega (arith, line-long word (a ∷ b ∷ []), length-append (integerOf a) (comma ∷ integerOf b))
+
+pub line-three : (word : List ℕ) (a b c : ℤ) → length (lineOf word (a ∷ b ∷ c ∷ [])) ≡ length word + length (integerOf a) + length (integerOf b) + length (integerOf c) + 4
+unfolding numbersOf gather numberField
+line-three word a b c =
+    omega (arith, line-long word (a ∷ b ∷ c ∷ []), length-append (integerOf a ++ (comma ∷ integerOf b)) (comma ∷ integerOf c), length-append (integerOf a) (comma ∷ integerOf b))
 
 -- writing a line: its word, its numbers, its end
 module _ (at : ℕ) (word : List ℕ) (numbers : List ℤ) (out : List ℕ) (fits : at + length (lineOf word numbers) ≤ length out) where
-  line-long : length (lineOf word numbers) ≡ length word + length (numbersOf numbers) + 1
-  unfolding lineOf
-  line-long =
-      ap length (sym (append-assoc word (numbersOf numbers) (lineEnd ∷ [])))
-      ∙ length-append (word ++ numbersOf numbers) (lineEnd ∷ [])
-      ∙ ap (λ (k : ℕ). k + 1) (length-append word (numbersOf numbers))
+  long : length (lineOf word numbers) ≡ length word + length (numbersOf numbers) + 1
+  long = line-long word numbers
 
   pub word-room : at + length word ≤ length out
-  word-room = omega (arith, line-long, fits)
+  word-room = omega (arith, long, fits)
 
   module _ (first : List ℕ) (behind : ℕ) (e : first ≡ placed at word out) (f : behind ≡ at + length word) where
     pub numbers-room : behind + length (numbersOf numbers) ≤ length first
-    numbers-room = let k = ap length e ∙ length-placed at word out word-room in omega (arith, line-long, fits, k, f)
+    numbers-room = let k = ap length e ∙ length-placed at word out word-room in omega (arith, long, fits, k, f)
 
     module _ (second : List ℕ) (end : ℕ) (g : second ≡ placed behind (numbersOf numbers) first) (k : end ≡ behind + length (numbersOf numbers)) where
       two-long : length (word ++ numbersOf numbers) ≡ length word + length (numbersOf numbers)
       two-long = length-append word (numbersOf numbers)
 
       two : second ≡ placed at (word ++ numbersOf numbers) out
-      two = g ∙ placed-more at word (numbersOf numbers) out first behind e f (omega (arith, line-long, fits))
+      two = g ∙ placed-more at word (numbersOf numbers) out first behind e f (omega (arith, long, fits))
 
       pub end-room : end < length second
       end-room =
-          let l = ap length two ∙ length-placed at (word ++ numbersOf numbers) out (omega (arith, two-long, line-long, fits)) in
-          omega (arith, l, line-long, fits, f, k)
+          let l = ap length two ∙ length-placed at (word ++ numbersOf numbers) out (omega (arith, two-long, long, fits)) in
+          omega (arith, l, long, fits, f, k)
 
       pub line-written : set second end lineEnd ≡ placed at (lineOf word numbers) out
       unfolding lineOf
       line-written =
-          placed-turn at lineEnd (word ++ numbersOf numbers) out second end two (omega (arith, two-long, f, k)) (omega (arith, two-long, line-long, fits))
+          placed-turn at lineEnd (word ++ numbersOf numbers) out second end two (omega (arith, two-long, f, k)) (omega (arith, two-long, long, fits))
           ∙ ap (λ (l : List ℕ). placed at l out) (append-assoc word (numbersOf numbers) (lineEnd ∷ []))
 
       pub line-end : end + 1 ≡ at + length (lineOf word numbers)
-      line-end = omega (arith, line-long, f, k)
+      line-end = omega (arith, long, f, k)

@@ -24,7 +24,7 @@ use lib.Pow.{pow-mono}
 use lib.Seq.{drop-cons}
 use borrow.Author.Tests.{ltb-true, leb-true, eqb-true, lt-ltb, le-ltb, le-leb, lt-leb, eq-eqb, ne-eqb}
 use Rattle.integer.specs.Sum.{signed}
-use Rattle.integer.proofs.Firsts.{clash}
+use Rattle.integer.proofs.Bools.{clash}
 use Rattle.walsh.specs.Answers.{inputsOf}
 use Rattle.walsh.specs.Faults.{keptInputs, stuckOf, rising, binary, fewOf, stuckRight, openedRight, linesAfter}
 use Rattle.walsh.specs.Steps.{keptOf}

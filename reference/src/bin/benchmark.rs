@@ -1,9 +1,12 @@
 //! Times the library's whole-list calls on 2,048 numbers against the
 //! reference's direct ones and, for the spectrum, a plain fast transform; then
-//! its circuit call against rows one by one and that transform.
+//! its circuit call against rows one by one and that transform, and its plan and
+//! report calls against the same with a choice of labels that is cut short.
 
-use reference::circuits::{Draft, Sizes};
+use reference::circuits::{worst_search, Draft, Sizes};
+use reference::plan::{self, CAP_LIMIT, WORKING_NUMBERS};
 use reference::random::Random;
+use reference::report::{self, REPORT_ROOM};
 use reference::walsh::ROW_LIMIT;
 use reference::{fast, library, netlist, walsh};
 use std::hint::black_box;
@@ -14,6 +17,9 @@ const CIRCUIT_LENGTH: usize = 256;
 const ROUNDS: usize = 31;
 /// Calls are repeated within a measurement until it lasts this long.
 const MEASUREMENT_SECONDS: f64 = 0.002;
+
+/// The row whose time is asked for as such, too.
+const WORST_SEARCH: &str = "plan, worst search";
 
 struct Contender<'a> {
     name: &'static str,
@@ -68,8 +74,12 @@ fn main() {
     check(&rows, &spectrum, &inputs, &values);
     let text = Draft::draw(&mut random, Sizes::LARGEST).text();
     let faults = check_circuit(&text);
+    let planned = planned_text(&mut random);
+    let worst = worst_search().text();
+    check_plans(&planned, &worst);
 
     let (rows, spectrum, text) = (&rows[..], &spectrum[..], &text[..]);
+    let (planned, worst) = (&planned[..], &worst[..]);
     // One buffer for each contender, so that none meets another's result.
     let mut buffers = vec![vec![0; LENGTH]; 7];
     let mut lend = buffers.iter_mut();
@@ -77,6 +87,9 @@ fn main() {
     let (to_spectrum, to_fast, to_rows) = (buffer(), buffer(), buffer());
     let (to_stuck, to_opened) = (buffer(), buffer());
     let (to_circuit, to_fast_circuit) = (buffer(), buffer());
+    let mut working = [(); 3].map(|_| vec![0; WORKING_NUMBERS]);
+    let [to_plan, to_search, to_report] = &mut working;
+    let to_bytes = &mut vec![0; REPORT_ROOM];
 
     let mut races = [
         Race {
@@ -146,6 +159,38 @@ fn main() {
                 }
             })],
         },
+        Race {
+            name: "plan, largest circuit",
+            library: Contender::new("library", move || {
+                black_box(library::plan(black_box(planned), black_box(to_plan)));
+            }),
+            others: vec![Contender::new("masks, pruned choice", move || {
+                let _ = black_box(fast::plan(black_box(planned), WORKING_NUMBERS));
+            })],
+        },
+        Race {
+            name: "report, largest circuit",
+            library: Contender::new("library", move || {
+                black_box(library::report(
+                    black_box(planned),
+                    black_box(to_bytes),
+                    black_box(to_report),
+                ));
+            }),
+            others: vec![Contender::new("masks, pruned choice", move || {
+                let planned = black_box(planned);
+                let _ = black_box(fast::report(planned, REPORT_ROOM, WORKING_NUMBERS));
+            })],
+        },
+        Race {
+            name: WORST_SEARCH,
+            library: Contender::new("library", move || {
+                black_box(library::plan(black_box(worst), black_box(to_search)));
+            }),
+            others: vec![Contender::new("masks, pruned choice", move || {
+                let _ = black_box(fast::plan(black_box(worst), WORKING_NUMBERS));
+            })],
+        },
     ];
 
     // Every round measures each contender once, so noise hits all alike.
@@ -180,6 +225,10 @@ fn main() {
             );
         }
     }
+    let search = races.iter().find(|race| race.name == WORST_SEARCH);
+    let seconds = search.expect("a worst search").library.median();
+    println!();
+    println!("The worst search took the library {seconds:.3} s; under 0.2 s is asked.");
 }
 
 /// What is timed must be equal first.
@@ -226,4 +275,40 @@ fn check_circuit(text: &[u8]) -> u32 {
         assert_eq!(Ok(out), due, "the reference's fault {fault} differs");
     }
     faults
+}
+
+/// A circuit of the largest size with a plan of more than one label.
+fn planned_text(random: &mut Random) -> Vec<u8> {
+    loop {
+        let draft = Draft::draw(random, Sizes::LARGEST);
+        let changing = draft.changing_faults();
+        // Faults that change a row stand in for the silent ones.
+        let faults: Vec<_> = changing.iter().cycle().take(32).cloned().collect();
+        let text = draft.with_faults(&faults, CAP_LIMIT).text();
+        if faults.len() == 32 && fast::plan(&text, WORKING_NUMBERS).is_ok_and(|set| set.len() > 1) {
+            return text;
+        }
+    }
+}
+
+/// The same for plans and reports.
+fn check_plans(planned: &[u8], worst: &[u8]) {
+    let working = &mut vec![0; WORKING_NUMBERS];
+    let due = plan::plan(planned, WORKING_NUMBERS).expect("a plan");
+    let found = library::plan(planned, working);
+    let labels: Vec<usize> = found.labels.iter().map(|&label| label as usize).collect();
+    assert_eq!((found.number, found.size), (0, due.len()));
+    assert_eq!(labels[..due.len()], due, "the library's plan differs");
+    assert_eq!(fast::plan(planned, WORKING_NUMBERS), Ok(due));
+
+    let due = report::report(planned, REPORT_ROOM, WORKING_NUMBERS).expect("a report");
+    let mut out = vec![0; REPORT_ROOM];
+    let found = library::report(planned, &mut out, working);
+    assert_eq!((found.number, found.length), (0, due.len()));
+    assert_eq!(out[..due.len()], due, "the library's report differs");
+    let fast_report = fast::report(planned, REPORT_ROOM, WORKING_NUMBERS);
+    assert_eq!(fast_report, Ok(due));
+
+    assert_eq!(library::plan(worst, working).number, 14);
+    assert_eq!(fast::plan(worst, WORKING_NUMBERS), walsh::refuse(14, 0));
 }

@@ -5,7 +5,7 @@ use mathlib.Core.Path.{sym, _∙_, subst}
 use Prim.Native.Nat.{ℕ, _<_, _≤_, _^_}
 use lib.ListN.{getD}
 use lib.Pow.{pow-mono}
-use Rattle.integer.proofs.Firsts.{clash}
+use Rattle.integer.proofs.Bools.{clash}
 use Rattle.cover.proofs.Marking.{bit-is, work-length, work-within, spectrum-length, marked-by}
 use Rattle.cover.proofs.marks.mark_by.Statement.{statement}
 use Rattle.cover.proofs.marks.mark_by.Tie as tie

@@ -4,10 +4,8 @@ use denote.Ref.{now}
 use mathlib.Core.List.{List}
 use mathlib.Core.Path.{_≡_, refl, sym, ap, _∙_}
 use native.Mathlib.Omega.{arith}
-use lib.Dec.{lit≤}
 use lib.IntN.{ℤ}
 use lib.ListN.{length}
-use Rattle.integer.proofs.Bounds.{within-more}
 use Rattle.integer.proofs.Tabs.{length-mapped}
 use Rattle.netlist.specs.Circuits.{netlistOf}
 use Rattle.simulation.specs.Rows.{rowsOf}
@@ -15,7 +13,7 @@ use Rattle.netlist.specs.declared.Fault.{Fault}
 use Rattle.walsh.specs.Answers.{leaves}
 use Rattle.walsh.specs.Spectrum.{spectrumOf}
 use Rattle.planner.specs.CircuitCall.{faultSpectrum}
-use Rattle.planner.proofs.CircuitLaws.{rows-bounded, text-stop, fault-stop, right, served, served-spectrum}
+use Rattle.planner.proofs.CircuitLaws.{rows-in-range, text-stop, fault-stop, right, served, served-spectrum}
 use Rattle.planner.proofs.circuit_call.circuit_spectrum.Statement.{statement}
 use Rattle.planner.proofs.circuit_call.circuit_spectrum.Tie as tie
 
@@ -45,7 +43,7 @@ fault-spectrum-requires c κs =
     let w = right (now (a .text)) (a .fault) 0 (p .result) (p .ensures .0) (c .before .before .before .before .before .if1 .left) in
     let n = netlistOf (p .result .circuit) in
     let f = c .before .fault-at .result in
-    ((p .ensures .1, w .inputs-low), within-more {B = 60} {C = 1000} (rowsOf n f) (lit≤ tt) (rows-bounded n f w))
+    ((p .ensures .1, w .inputs-low), rows-in-range n f w)
 
 same-length : tie.Need-same-length
 same-length c = search needs

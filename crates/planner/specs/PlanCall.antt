@@ -1,0 +1,77 @@
+-- The plan call (document 01, "Plan"):
+--   "The call gets the text and 4,608 lent 32-bit numbers. It .. returns the first set that covers every fault .. The number of labels returned is
+--   the set's size, and label places past it hold 0 .. What the 4,608 numbers hold afterwards is free; later ones are untouched."
+--   "Calls on text then test 12, 8, 13, 14." "A refusal writes nothing, except that 13 and 14 may have used the working numbers." "Sizes, labels
+--   and readings returned with a refusal are 0."
+use Prim.Native.Nat.{ℕ, suc}
+use mathlib.Core.Bool.{Bool, false, cond, _||_}
+use mathlib.Core.List.{List, [], map}
+use mathlib.Core.Option.{Option, none, some}
+use mathlib.Core.Path.{_≡_}
+use lib.Dec.{eqb, ltb}
+use lib.IntN.{ℤ}
+use lib.ListN.{length, drop}
+use Rattle.cover.specs.Cover.{firstSilent, signatureOf}
+use Rattle.cover.specs.Steps.{fourOf}
+use Rattle.netlist.specs.Circuits.{Netlist, sound}
+use Rattle.netlist.specs.Parsing.{Parse, accepted, rejected, parseOf}
+use Rattle.simulation.specs.Rows.{rowsOf}
+use Rattle.planner.specs.declared.Planned.{Planned}
+
+abbrev pub soundRows : Netlist → List ℤ
+soundRows n = rowsOf n sound
+
+-- the rows under each fault of the text
+abbrev pub faultedRows : Netlist → List (List ℤ)
+faultedRows n = map (rowsOf n) (n .faults)
+
+-- a refusal's number and place, or the plan's labels
+pub data Verdict : Type 0 where
+  refused : ℕ → ℕ → Verdict
+  planned : List ℕ → Verdict
+
+-- 14 where no set within the cap covers every fault
+abbrev pub searched : Option (List ℕ) → Verdict
+searched none = refused 14 0
+searched (some labels) = planned labels
+
+unfoldable pub silentFirst : Netlist → ℕ
+silentFirst n = firstSilent (soundRows n) (faultedRows n)
+
+-- 13 with the first silent fault, from 1, goes first
+unfoldable pub verdictOf : Netlist → Verdict
+verdictOf n =
+    cond (ltb (silentFirst n) (length (n .faults))) (refused 13 (suc (silentFirst n)))
+    (searched (signatureOf (soundRows n) (faultedRows n) (n .cap)))
+
+abbrev pub workDue : ℕ
+workDue = 4608
+
+-- the text's own refusals, then 8 unless there are enough working numbers
+abbrev pub planIn : Parse → ℕ → Verdict
+planIn (accepted n) work = cond (ltb work workDue) (refused 8 0) (verdictOf n)
+planIn (rejected number place) work = refused number place
+
+unfoldable pub planVerdict : List ℕ → ℕ → Verdict
+planVerdict text work = planIn (parseOf text) work
+
+-- document 01's numbers of a verdict
+abbrev pub planNumbers : Verdict → Planned
+planNumbers (refused number place) = record { number = number; place = place; size = 0; labels = fourOf [] }
+planNumbers (planned labels) = record { number = 0; place = 0; size = length labels; labels = fourOf labels }
+
+unfoldable pub planAnswer : List ℕ → ℕ → Planned
+planAnswer text work = planNumbers (planVerdict text work)
+
+abbrev pub refusalNumber : Verdict → ℕ
+refusalNumber (refused number place) = number
+refusalNumber (planned labels) = 0
+
+-- a plan, 13 and 14 may have used the working numbers
+unfoldable pub mayUse : Verdict → Bool
+mayUse v = eqb (refusalNumber v) 0 || (eqb (refusalNumber v) 13 || eqb (refusalNumber v) 14)
+
+-- what holds of the working numbers afterwards
+pub record WorkKept (v : Verdict) (before after : List ℕ) : Type 0 where
+  pub later-kept : drop workDue after ≡ drop workDue before
+  pub all-kept : mayUse v ≡ false → after ≡ before
