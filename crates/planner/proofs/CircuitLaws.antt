@@ -12,7 +12,6 @@ use lib.Dec.{lit≤}
 use lib.IntN.{ℤ}
 use lib.ListN.{length}
 use lib.Pow.{pow-mono}
-use lib.Seq.{length-take-le}
 use borrow.Author.Tests.{lt-ltb, le-ltb, eq-eqb, ne-eqb}
 use Rattle.integer.specs.Tab.{Within}
 use Rattle.integer.proofs.Bounds.{within-more}
@@ -31,6 +30,7 @@ use Rattle.walsh.specs.Spectrum.{spectrumOf}
 use Rattle.walsh.specs.declared.Answer.the-variants.{Refused}
 use Rattle.walsh.proofs.Screens.{inputs-is, within-screened}
 use Rattle.walsh.proofs.Spectra.{within-spectrum}
+use Rattle.planner.proofs.Counts.{faults-counted}
 use Rattle.planner.specs.CircuitCall.{roomAnswer, faultAnswer, circuitAnswer, faultSpectrum, circuitSpectrum}
 
 pub rows-bounded : (n : Netlist) (f : Fault) → WellFormed n → Within 60 (rowsOf n f)
@@ -76,8 +76,7 @@ module _ (text : List ℕ) (fault room : ℕ) (p : Parsed) (means : meaning p �
 
     module _ (size : Sized (p .circuit)) (filled : length (p .circuit .faults) ≡ 32) where
       count : length (netlistOf (p .circuit) .faults) ≡ p .circuit .head .faults
-      unfolding netlistOf
-      count = length-take-le (p .circuit .head .faults) (p .circuit .faults) (omega (arith, size .faults))
+      count = faults-counted (p .circuit) size filled
 
       pub fault-stop : p .circuit .head .faults < fault → circuitAnswer text fault room ≡ Refused 12 0
       unfolding circuitAnswer faultAnswer

@@ -1,17 +1,14 @@
 -- The faulted rows of a circuit, by fault:
 --   fault-rows, fault-rows-next    the rows of fault f, from 0, are those under the circuit's fault f + 1
 --   fault-count     there are as many as the circuit has faults
---   circuit-faults  as many as the head of a circuit of the code says
 use mathlib.Core.Path.{_≡_, refl, sym, ap, _∙_}
 use mathlib.Core.List.{List, [], _∷_, map}
-use Prim.Native.Nat.{ℕ, zero, suc, _+_, _<_, _≤_}
+use Prim.Native.Nat.{ℕ, zero, suc, _+_, _<_}
 use native.Mathlib.Numerals.{add-one}
 use native.Mathlib.Omega.{arith}
 use lib.ListN.{length, getD, length-map}
-use lib.Seq.{length-take-le}
 use Rattle.cover.specs.Cover.{faultRows}
-use Rattle.netlist.specs.Circuits.{Netlist, netlistOf, sound, faultAt}
-use Rattle.netlist.specs.declared.Circuit.{Circuit}
+use Rattle.netlist.specs.Circuits.{Netlist, sound, faultAt}
 use Rattle.simulation.specs.Rows.{rowsOf}
 use Rattle.planner.specs.PlanCall.{faultedRows}
 
@@ -29,8 +26,3 @@ fault-rows-next n f h = ap (λ (k : ℕ). rowsOf n (faultAt n k)) (add-one f) �
 
 pub fault-count : (n : Netlist) → length (faultedRows n) ≡ length (n .faults)
 fault-count n = length-map (n .faults) (rowsOf n)
-
--- of a circuit of the code
-pub circuit-faults : (c : Circuit) → c .head .faults ≤ length (c .faults) → length (netlistOf c .faults) ≡ c .head .faults
-unfolding netlistOf
-circuit-faults c h = length-take-le (c .head .faults) (c .faults) h

@@ -1,4 +1,5 @@
 pub mod CircuitLaws
+pub mod Counts
 pub mod Demanded
 pub mod FaultRows
 pub mod PlanLaws

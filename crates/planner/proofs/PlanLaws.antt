@@ -6,23 +6,21 @@
 --   Ready, may-find    no fault is silent and all are marked, and what the search requires
 --   plan-silent, plan-none, plan-found     the verdict's numbers: 13, 14, the labels
 --   verdict-text, verdict-room, verdict-served    the call's verdict, by the parser's answer
---   faults-counted, due-is, due-few, due-fits     the number of faults, and 2^N as the code computes it
 --   front-labels       the front of the labels that the order gives
 --   kept, front-used   the working numbers, untouched or with their front used
 use mathlib.Core.Path.{_≡_, refl, sym, ap, ap₂, _∙_, subst}
 use mathlib.Core.Bool.{Bool, true, false, cond}
 use mathlib.Core.List.{List, _++_}
 use mathlib.Core.Option.{Option, none, some}
-use Prim.Native.Nat.{ℕ, suc, _+_, _-_, _*_, _%_, _<_, _≤_, _^_}
-use native.Mathlib.Decide.{decLe}
-use native.Mathlib.Nat.{le-trans, lt-of-not-le}
+use Prim.Native.Nat.{ℕ, suc, _+_, _-_, _<_, _≤_, _^_}
 use native.Mathlib.Numerals.{add-one}
 use native.Mathlib.Omega.{arith}
-use lib.Dec.{ltb, lit≤}
+use lib.Dec.{ltb}
 use lib.IntN.{ℤ}
 use lib.ListN.{length, take, drop, replicate}
 use lib.Pow.{pow-mono}
 use lib.Seq.{drop-append-add, drop-drop}
+use borrow.Author.Count.{below-more}
 use borrow.Author.Tests.{lt-ltb, le-ltb}
 use Rattle.cover.specs.Cover.{faultRows, silent, silentAt, firstSilent, signatureOf}
 use Rattle.cover.specs.Order.{labelsBelow}
@@ -33,27 +31,21 @@ use Rattle.cover.proofs.LabelOrder.{labels-count, labels-below}
 use Rattle.cover.proofs.Marking.{no-masks, marked-more, length-masks, masks-below}
 use Rattle.cover.proofs.Signatures.{found-is, signature-found}
 use Rattle.integer.specs.Tab.{Within}
-use Rattle.integer.proofs.Bounds.{within-more}
 use Rattle.integer.proofs.Bools.{clash}
 use Rattle.integer.proofs.Firsts.{first-le, first-hit, first-none}
 use Rattle.netlist.specs.Circuits.{Netlist, netlistOf, Sized, sound, faultAt}
 use Rattle.netlist.specs.Parsing.{parseOf, meaning}
 use Rattle.netlist.specs.WellFormed.{WellFormed}
 use Rattle.netlist.specs.declared.Circuit.{Circuit}
-use Rattle.netlist.specs.declared.Fault.{Fault}
 use Rattle.netlist.specs.declared.Parsed.{Parsed}
 use Rattle.netlist.proofs.Assembling.{meant}
 use Rattle.simulation.specs.Rows.{rowsOf}
 use Rattle.simulation.proofs.RowBounds.{length-rows}
-use Rattle.walsh.proofs.OneStuck.{bit-is}
 use Rattle.planner.specs.PlanCall.{Verdict, refused, soundRows, faultedRows, searched, silentFirst, verdictOf, workDue, planVerdict, planNumbers, mayUse, WorkKept}
 use Rattle.planner.specs.declared.Planned.{Planned}
-use Rattle.planner.proofs.CircuitLaws.{rows-bounded, accepted-as}
-use Rattle.planner.proofs.FaultRows.{fault-rows, fault-count, circuit-faults}
-
--- the circuit's array of faults is full, past the faults of the text too
-pub faults-counted : (c : Circuit) → Sized c → length (c .faults) ≡ 32 → length (netlistOf c .faults) ≡ c .head .faults
-faults-counted c size full = circuit-faults c (omega (arith, size .faults))
+use Rattle.planner.proofs.Counts.{due, due-is, due-few}
+use Rattle.planner.proofs.CircuitLaws.{rows-in-range, accepted-as}
+use Rattle.planner.proofs.FaultRows.{fault-rows-next, fault-count}
 
 -- Marking the faults.
 
@@ -87,7 +79,7 @@ pub record Turn (n : Netlist) (f : ℕ) (masks : List ℕ) (sound-rows faulted :
 
 module _ {n : Netlist} {f : ℕ} {masks : List ℕ} {sound-rows faulted : List ℤ} {labels : List ℕ} (t : Turn n f masks sound-rows faulted labels) where
   here : faulted ≡ faultRows (faultedRows n) f
-  here = t .faulted-are ∙ ap (λ (k : ℕ). rowsOf n (faultAt n k)) (add-one f) ∙ sym (fault-rows n f (t .low))
+  here = t .faulted-are ∙ fault-rows-next n f (t .low)
 
   sound-long : length sound-rows ≡ 2 ^ n .inputs
   sound-long = ap length (t .sound-are) ∙ length-rows n sound
@@ -104,12 +96,9 @@ module _ {n : Netlist} {f : ℕ} {masks : List ℕ} {sound-rows faulted : List �
         (t .right .inputs-high, omega (arith, t .right .faults-high), sound-long, ap length (t .faulted-are) ∙ length-rows n (faultAt n (f + 1)) ∙ sym sound-long),
         (
           (ap length (t .labels-are) ∙ labels-count (n .inputs) (t .right .inputs-high) ∙ sym sound-long, ap length (t .so-far .marks) ∙ masks-long ∙ ap length (sym (t .sound-are))),
-          ((subst (λ (k : ℕ). Below k labels) (sym sound-long) low-labels, low-masks), (bounded sound-rows sound (t .sound-are), bounded faulted (faultAt n (f + 1)) (t .faulted-are))),
+          ((subst (λ (k : ℕ). Below k labels) (sym sound-long) low-labels, low-masks), (subst (Within 1000) (sym (t .sound-are)) (rows-in-range n sound (t .right)), subst (Within 1000) (sym (t .faulted-are)) (rows-in-range n (faultAt n (f + 1)) (t .right)))),
         ),
       )
-    where
-      bounded : (rows : List ℤ) (fault : Fault) → rows ≡ rowsOf n fault → Within 1000 rows
-      bounded rows fault e = subst (Within 1000) (sym e) (within-more {B = 60} {C = 1000} (rowsOf n fault) (lit≤ tt) (rows-bounded n fault (t .right)))
 
   silent-here : silentAt (soundRows n) (faultedRows n) f ≡ silent sound-rows faulted
   unfolding silentAt
@@ -122,15 +111,11 @@ module _ {n : Netlist} {f : ℕ} {masks : List ℕ} {sound-rows faulted : List �
 
   pub heard-more : (next : List ℕ) → silent sound-rows faulted ≡ false → next ≡ marked sound-rows faulted labels f masks → Heard n (f + 1) next
   heard-more next e k = record {
-    loud = λ x h. at x h (decLe f x);
+    loud = below-more (λ x. silentAt (soundRows n) (faultedRows n) x ≡ false) f (t .so-far .loud) (silent-here ∙ e);
     marks =
         k ∙ ap₂ (λ (a b : List ℤ). marked a b labels f masks) (t .sound-are) here ∙ ap (λ (l : List ℕ). marked (soundRows n) (faultRows (faultedRows n) f) l f masks) (t .labels-are)
         ∙ marked-more (soundRows n) (faultedRows n) (labelsFor n) f masks (t .so-far .marks) ∙ ap (masksOf (soundRows n) (faultedRows n) (labelsFor n)) (sym (add-one f));
   }
-    where
-      at : (x : ℕ) → x < f + 1 → Dec (f ≤ x) → silentAt (soundRows n) (faultedRows n) x ≡ false
-      at x h (yes g) = let same : x ≡ f = omega arith in ap (silentAt (soundRows n) (faultedRows n)) same ∙ silent-here ∙ e
-      at x h (no g) = t .so-far .loud x (lt-of-not-le g)
 
 -- The verdict.
 
@@ -227,30 +212,18 @@ verdict-uses n = go (ltb (silentFirst n) (length (n .faults))) (signature n)
 -- The fronts that are lent: 2^N numbers.
 
 module _ (c : Circuit) (size : Sized c) where
-  abbrev pub due : ℕ
-  due = (1 * 2 ^ c .head .inputs) % 2 ^ 64
-
-  pub due-is : due ≡ 2 ^ c .head .inputs
-  due-is = bit-is (c .head .inputs) (omega (arith, size .inputs))
-
-  pub due-few : due ≤ 256
-  due-few = subst (λ (n : ℕ). n ≤ 256) (sym due-is) (pow-mono (size .inputs))
-
-  pub due-fits : {A : Type 0} (l : List A) → 256 ≤ length l → due ≤ length l
-  due-fits l h = le-trans due-few h
-
-  pub front-labels : (labels : List ℕ) → take (length (labelsBelow due)) labels ≡ labelsBelow due → take due labels ≡ labelsBelow (2 ^ c .head .inputs)
+  pub front-labels : (labels : List ℕ) → take (length (labelsBelow (due c size))) labels ≡ labelsBelow (due c size) → take (due c size) labels ≡ labelsBelow (2 ^ c .head .inputs)
   front-labels labels e =
-      let all : length (labelsBelow due) ≡ due = ap (λ (n : ℕ). length (labelsBelow n)) due-is ∙ labels-count (c .head .inputs) (size .inputs) ∙ sym due-is in
-      ap (λ (n : ℕ). take n labels) (sym all) ∙ e ∙ ap labelsBelow due-is
+      let all : length (labelsBelow (due c size)) ≡ (due c size) = ap (λ (n : ℕ). length (labelsBelow n)) (due-is c size) ∙ labels-count (c .head .inputs) (size .inputs) ∙ sym (due-is c size) in
+      ap (λ (n : ℕ). take n labels) (sym all) ∙ e ∙ ap labelsBelow (due-is c size)
 
-  pub front-used : (front before : List ℕ) {v : Verdict} → v ≡ verdictOf (netlistOf c) → length front ≡ due → WorkKept v before (front ++ drop due before)
+  pub front-used : (front before : List ℕ) {v : Verdict} → v ≡ verdictOf (netlistOf c) → length front ≡ (due c size) → WorkKept v before (front ++ drop (due c size) before)
   front-used front before e long = record {
     later-kept =
-        let few = due-few in
-        let split : workDue ≡ length front + (workDue - due) = omega arith in
-        let join : due + (workDue - due) ≡ workDue = omega arith in
-        ap (λ (k : ℕ). drop k (front ++ drop due before)) split ∙ drop-append-add front (drop due before) (workDue - due)
-        ∙ drop-drop (workDue - due) due before ∙ ap (λ (k : ℕ). drop k before) join;
+        let few = due-few c size in
+        let split : workDue ≡ length front + (workDue - (due c size)) = omega arith in
+        let join : (due c size) + (workDue - (due c size)) ≡ workDue = omega arith in
+        ap (λ (k : ℕ). drop k (front ++ drop (due c size) before)) split ∙ drop-append-add front (drop (due c size) before) (workDue - (due c size))
+        ∙ drop-drop (workDue - (due c size)) (due c size) before ∙ ap (λ (k : ℕ). drop k before) join;
     all-kept = λ none. clash (sym (verdict-uses (netlistOf c)) ∙ ap mayUse (sym e) ∙ none);
   }

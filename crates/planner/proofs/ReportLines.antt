@@ -18,6 +18,7 @@ use lib.Pow.{pow-mono, pow-pos}
 use mir.Syntax.{w32}
 use mir.Val.{toZ, ofZ, SFits}
 use mir.ValLaws.{toZ-ofZ}
+use borrow.Author.Count.{below-more}
 use borrow.Author.Tests.{le-ltb, ltb-true, ltb-false}
 use Rattle.cover.specs.Cover.{differ, covers, faultRows}
 use Rattle.cover.specs.Steps.{Below}
@@ -119,13 +120,6 @@ label-read label value h k = ap₂ (λ (a b : ℤ). lineOf labelWord (a ∷ b �
 
 -- ---- the first covering label
 
-none-more : (p : ℕ → Bool) (i : ℕ) → ((x : ℕ) → x < i → p x ≡ false) → p i ≡ false → (x : ℕ) → x < i + 1 → p x ≡ false
-none-more p i before here x h = go (ltb x i) refl
-  where
-    go : (t : Bool) → ltb x i ≡ t → p x ≡ false
-    go true e = before x (ltb-true x i e)
-    go false e = let l = ltb-false x i e in let same : x ≡ i = omega (arith, l, h) in ap p same ∙ here
-
 bits-same : (a b : ℤ) → SFits w32 a → SFits w32 b → ofZ w32 a ≡ ofZ w32 b → a ≡ b
 bits-same a b f g e = sym (toZ-ofZ w32 a f) ∙ ap (toZ w32) e ∙ toZ-ofZ w32 b g
 
@@ -143,7 +137,7 @@ module _ (sound faulted : List ℤ) (labels : List ℕ) (i : ℕ) (before : (x :
 
   pub covering-later : SFits w32 A → SFits w32 B → ofZ w32 A ≡ ofZ w32 B → (x : ℕ) → x < i + 1 → differAt sound faulted labels x ≡ false
   unfolding differAt
-  covering-later f g e = none-more (differAt sound faulted labels) i before (eq-differ A B (bits-same A B f g e))
+  covering-later f g e = below-more (λ x. differAt sound faulted labels x ≡ false) i before (eq-differ A B (bits-same A B f g e))
 
   pub covering-none : length labels ≤ i → 0 ≡ spectralCovering sound faulted labels
   unfolding spectralCovering

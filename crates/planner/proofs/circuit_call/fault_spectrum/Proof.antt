@@ -1,36 +1,26 @@
 -- 2^N rows fit the front of the local array.
 use borrow.Author.Needs.{needs}
-use Prim.Native.Nat.{ℕ, _*_, _%_, _^_, _≤_}
-use mathlib.Core.Path.{_≡_, sym, _∙_, subst⁻¹}
-use native.Mathlib.Omega.{arith}
-use lib.Pow.{pow-mono}
+use Prim.Native.Nat.{_^_}
+use mathlib.Core.Path.{sym, _∙_}
 use lib.Seq.{length-take-le}
-use Rattle.netlist.specs.Circuits.{Sized}
-use Rattle.netlist.specs.declared.Circuit.{Circuit}
-use Rattle.walsh.proofs.OneStuck.{bit-is}
+use Rattle.planner.proofs.Counts.{due-is, due-few}
 use Rattle.planner.proofs.circuit_call.fault_spectrum.Statement.{statement}
 use Rattle.planner.proofs.circuit_call.fault_spectrum.Tie as tie
-
-power : (c : Circuit) → Sized c → (1 * 2 ^ c .head .inputs) % 2 ^ 64 ≡ 2 ^ c .head .inputs
-power c s = bit-is (c .head .inputs) (omega (arith, s .inputs))
-
-few : (c : Circuit) → Sized c → (1 * 2 ^ c .head .inputs) % 2 ^ 64 ≤ 256
-few c s = subst⁻¹ (λ (n : ℕ). n ≤ 256) (power c s) (pow-mono (s .inputs))
 
 shl-due : tie.Need-shl-due
 shl-due c = search needs
 
 array-borrow-prefix-rows : tie.Need-array-borrow-prefix-rows
-array-borrow-prefix-rows c = few (c .args .c) (c .pre .0 .0)
+array-borrow-prefix-rows c = due-few (c .args .c) (c .pre .0 .0)
 
 slice-aggregate-spectrum-by : tie.Need-slice-aggregate-spectrum-by
-slice-aggregate-spectrum-by c = sym (length-take-le _ _ (few (c .before .args .c) (c .before .pre .0 .0)))
+slice-aggregate-spectrum-by c = sym (length-take-le _ _ (due-few (c .before .args .c) (c .before .pre .0 .0)))
 
 spectrum-by-requires : tie.Need-spectrum-by-requires
 spectrum-by-requires c κs =
     let s = c .before .before in
     let q = s .pre in
-    ((q .0 .0, q .0 .1, length-take-le _ _ (few (s .args .c) (q .0 .0)) ∙ power (s .args .c) (q .0 .0)), q .1)
+    ((q .0 .0, q .0 .1, length-take-le _ _ (due-few (s .args .c) (q .0 .0)) ∙ due-is (s .args .c) (q .0 .0)), q .1)
 
 same-length : tie.Need-same-length
 same-length c = search needs

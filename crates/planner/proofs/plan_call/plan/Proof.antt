@@ -8,7 +8,8 @@ use lib.ListN.{length}
 use lib.Seq.{length-take-le}
 use Rattle.planner.specs.PlanCall.{planNumbers, planAnswer}
 use Rattle.planner.proofs.CircuitLaws.{right}
-use Rattle.planner.proofs.PlanLaws.{due-is, due-fits, verdict-text, verdict-room, verdict-served, kept, front-used}
+use Rattle.planner.proofs.Counts.{due-is, due-fits}
+use Rattle.planner.proofs.PlanLaws.{verdict-text, verdict-room, verdict-served, kept, front-used}
 use Rattle.planner.proofs.plan_call.plan.Statement.{statement}
 use Rattle.planner.proofs.plan_call.plan.Tie as tie
 

@@ -10,7 +10,8 @@ use Rattle.netlist.specs.Circuits.{netlistOf}
 use Rattle.netlist.specs.WellFormed.{WellFormed}
 use Rattle.netlist.specs.declared.Circuit.{Circuit}
 use Rattle.planner.proofs.CircuitLaws.{right}
-use Rattle.planner.proofs.PlanLaws.{due-is, due-fits, verdict-served, kept, front-used}
+use Rattle.planner.proofs.Counts.{due-is, due-fits}
+use Rattle.planner.proofs.PlanLaws.{verdict-served, kept, front-used}
 use Rattle.planner.proofs.ReportLaws.{text-refuses, text-serves, front-same}
 use Rattle.planner.proofs.report_call.text_lines.Statement.{statement}
 use Rattle.planner.proofs.report_call.text_lines.Tie as tie
