@@ -13,8 +13,8 @@ ghost use mathlib.Core.List.{[]};
 ghost use Prim.Native.Nat.{_≤_, _+_};
 ghost use lib.ListN.{drop};
 ghost use Rattle.netlist.specs.Circuits.{Sized};
-ghost use Rattle.netlist.specs.Lines.{headRefusal, gateRefusal, gateOf, outputRefusal, outputOf, faultRefusal, faultOf};
-ghost use Rattle.netlist.specs.Parsing.{lineRefusal, linesOf, nthGateRefusal, nthOutputRefusal, nthFaultRefusal, bodyOf, parseOf, meaning};
+ghost use Rattle.netlist.specs.Lines.{gateOf, outputOf, faultOf};
+ghost use Rattle.netlist.specs.Parsing.{linesOf, nthGateRefusal, nthOutputRefusal, nthFaultRefusal, bodyOf, parseOf, meaning};
 ghost use Rattle.netlist.specs.Steps.{readOf};
 
 // What the gate lines say; number 0 where none is refused, and then `at` is where the next line begins.

@@ -17,7 +17,8 @@ use lib.Dec.{ltb, lit≤}
 use lib.ListN.{length, take, getD, length-append}
 use borrow.Author.Tests.{lt-ltb, le-ltb, ltb-true, ltb-false}
 use Rattle.cover.specs.Cover.{signatureOf}
-use Rattle.cover.specs.Steps.{Below, fourOf}
+use Rattle.cover.specs.Sets.{fourOf}
+use Rattle.cover.specs.Steps.{Below}
 use Rattle.cover.proofs.LabelOrder.{at-mem}
 use Rattle.cover.proofs.Signatures.{signature-found}
 use Rattle.netlist.specs.Circuits.{Netlist, netlistOf, sound as unfaulted}

@@ -2,7 +2,6 @@
 // business of other crates.
 use netlist::Circuit;
 use netlist::Fault;
-use netlist::Gate;
 use netlist::Kind;
 use netlist::Stuck;
 ghost use mathlib.Core.Path.{_≡_};

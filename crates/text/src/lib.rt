@@ -6,7 +6,7 @@ pub use writing::put_decimal;
 pub use writing::put_integer;
 pub use writing::put_line;
 ghost use mathlib.Core.Path.{_≡_};
-ghost use Prim.Native.Nat.{_+_, _≤_};
+ghost use Prim.Native.Nat.{_+_};
 ghost use lib.ListN.{length, drop};
 ghost use Rattle.text.specs.Text.{indexOf, fieldOf, fieldStart, fieldCount, sameBytes, numberOf};
 
