@@ -12,13 +12,13 @@ use mathlib.Core.Path.{_≡_, refl, sym, ap, ap₂, _∙_, subst}
 use mathlib.Core.Bool.{Bool, true, false, not, cond, _&&_, Bool·not-not}
 use mathlib.Core.List.{List, _++_, append-nil}
 use Prim.Native.Nat.{ℕ, zero, suc, _+_, _-_, _*_, _/_, _%_, _<_, _≤_, _^_}
-use native.Mathlib.Nat.{le-trans, add-zero, one-mul, add-mul-div-right}
+use native.Mathlib.Nat.{le-trans, add-zero, add-mul-div-right}
 use native.Mathlib.Numerals.{add-one}
 use native.Mathlib.Omega.{arith}
 use lib.Dec.{eqb}
 use lib.IntN.{ℤ, pos, negsuc, _-ℤ_, natAbs, +ℤ-idr}
 use lib.ListN.{length, getD, drop, set, replicate, length-replicate, getD-replicate, drop-of-length-le}
-use lib.Pow.{pow-pos, pow-add, high, shl-exact}
+use lib.Pow.{pow-pos, pow-add, high}
 use lib.Seq.{ext-getD, set-getD}
 use lib.Signed.{mag}
 use mir.Syntax.{w32, w64}
@@ -27,10 +27,11 @@ use mir.ValLaws.{toZ-ofZ}
 use borrow.Author.Tests.{eq-eqb, ne-eqb, eqb-true, eqb-false}
 use Rattle.integer.specs.Tab.{tab, nth, Within}
 use Rattle.integer.proofs.Bounds.{natAbs-sub, within-more}
-use Rattle.integer.proofs.Machine.{sub-fits, sub-kept, sub-is}
+use Rattle.integer.proofs.Machine.{sub-fits, sub-kept, sub-is, bit-is}
 use Rattle.integer.proofs.Tabs.{length-tab, getD-tab, tab-ext, tab-step, tab-ahead}
 use Rattle.walsh.specs.Spectrum.{signedSum, coefficientOf, spectrumOf}
-use Rattle.walsh.proofs.Halving.{sum-sub, sum-equal, double}
+use Rattle.integer.proofs.Halves.{double}
+use Rattle.walsh.proofs.Halving.{sum-sub, sum-equal}
 use Rattle.cover.specs.Cover.{differ, allBelow, faultRows, covers}
 use Rattle.cover.specs.Steps.{bit, Below, differenceAt, differences, maskOf, bitAddedAt, bitAdded, markedAt, marked, coversAt, maskAt, masksOf}
 
@@ -111,9 +112,6 @@ module _ (sound faulted : List ℤ) where
         tab-ext (length masks) _ _
         (λ i h. ap (λ (b : Bool). getD masks i 0 + cond b (2 ^ f) 0) (covers-difference (getD labels i 0) (low i (omega arith))))
 
-pub bit-is : (f : ℕ) → f < 32 → (1 * 2 ^ f) % 2 ^ 32 ≡ 2 ^ f
-bit-is f h = shl-exact {a = 1} 1 f 32 (omega arith) (omega arith) ∙ one-mul (2 ^ f)
-
 -- the working numbers: the differences, and then their spectrum
 module _ (sound faulted work : List ℤ) (even : length faulted ≡ length sound) (differ-is : work ≡ differences sound faulted) where
   pub work-length : length work ≡ length sound
@@ -130,7 +128,7 @@ module _ (sound faulted work : List ℤ) (even : length faulted ≡ length sound
     pub marked-by : (labels : List ℕ) (f : ℕ) (masks : List ℕ) → f < 32 → length labels ≡ length masks → Below (length sound) labels
         → bitAdded spectrum labels ((1 * 2 ^ f) % 2 ^ 32) masks ≡ marked sound faulted labels f masks
     marked-by labels f masks h e low =
-        ap₂ (λ (l : List ℤ) (b : ℕ). bitAdded l labels b masks) (spectrum-is ∙ ap spectrumOf differ-is) (bit-is f h) ∙ marks-are sound faulted even labels f masks e low
+        ap₂ (λ (l : List ℤ) (b : ℕ). bitAdded l labels b masks) (spectrum-is ∙ ap spectrumOf differ-is) (bit-is 32 f h) ∙ marks-are sound faulted even labels f masks e low
 
 pub all-more : (p : ℕ → Bool) (i : ℕ) (same here : Bool) → same ≡ allBelow p i → here ≡ p i → (same && here) ≡ allBelow p (i + 1)
 unfolding allBelow

@@ -1,5 +1,6 @@
 -- What acceptance means:
 --   well-formed      an accepted circuit is within the ranges, its gates read lower lines, its outputs and faults name lines that exist
+--   accepted-as, accepted-right    the circuit of the parser's answer
 --   lines-said       lines that are read are each accepted by their own tests
 --   head-fits, gate-right, output-right, fault-right     what the tests of each line show
 use mathlib.Core.Path.{_≡_, refl, sym, ap, _∙_, subst, subst⁻¹}
@@ -13,13 +14,13 @@ use native.Mathlib.Omega.{arith}
 use lib.Dec.{eqb, leb, ltb}
 use lib.ListN.{length, getD, length-append, List·getD-append}
 use lib.Seq.{getD-append-seam}
-use borrow.Author.Tests.{ltb-true, leb-true, eqb-true, lt-leb}
+use borrow.Author.Tests.{ltb-true, leb-true, eqb-true, lt-leb, eq-eqb}
 use Rattle.text.specs.Text.{before, after, lineEnd, indexOf, fieldOf, fieldCount, numberOf, wellFormed}
 use Rattle.integer.proofs.Bools.{both}
 use Rattle.text.proofs.Parts.{no-field}
-use Rattle.netlist.specs.Circuits.{Netlist, noGate, noOutput, sound}
+use Rattle.netlist.specs.Circuits.{Netlist, netlistOf, noGate, noOutput, sound}
 use Rattle.netlist.specs.Lines.{unless, refusalOf, inRange, valueAt, isLine, fits, faultWord, isHead, headFits, headRefusal, headOf, kindOf, secondFits, isGate, gateFits, readsBelow, gateRefusal, gateOf, isOutput, outputFits, outputRefusal, outputOf, isFault, pairInRange, pairFits, faultFits, linesExist, risesAt, linesRise, faultRefusal, stuckAt, faultOf}
-use Rattle.netlist.specs.Parsing.{Read, items, refused, lineRefusal, linesOf, nthGateRefusal, nthOutputRefusal, nthFaultRefusal, gatesIn, outputsIn, faultsIn, Parse, accepted, rejected, onRead, endOf, bodyOf, parseOf}
+use Rattle.netlist.specs.Parsing.{Read, items, refused, lineRefusal, linesOf, nthGateRefusal, nthOutputRefusal, nthFaultRefusal, gatesIn, outputsIn, faultsIn, Parse, accepted, rejected, onRead, endOf, bodyOf, parseOf, meaning}
 use Rattle.netlist.specs.WellFormed.{SecondRight, GateRight, OutputRight, Above, FaultRight, WellFormed}
 use Rattle.netlist.specs.declared.Fault.{Fault}
 use Rattle.netlist.specs.declared.Gate.{Gate}
@@ -27,6 +28,7 @@ use Rattle.netlist.specs.declared.Head.{Head}
 use Rattle.netlist.specs.declared.Kind.{Kind}
 use Rattle.netlist.specs.declared.Kind.the-variants.{And, Or, Nand, Nor, Xor, Xnor, Not}
 use Rattle.netlist.specs.declared.Output.{Output}
+use Rattle.netlist.specs.declared.Parsed.{Parsed}
 
 -- tests joined
 
@@ -321,3 +323,12 @@ well-formed text n e = size (ltb 16384 (length text)) e
     size : (t : Bool) → cond t (rejected 1 0) (cond (eqb (lineRefusal headRefusal text) 0) (bodyOf head (after lineEnd text)) (rejected (lineRefusal headRefusal text) 1)) ≡ accepted n → WellFormed n
     size true q = never 1 0 n q
     size false q = first (ltb (indexOf lineEnd text) (length text)) (eqb (lineRefusal headRefusal text) 0) refl q
+
+-- of the parser's answer
+module _ (text : List ℕ) (p : Parsed) (means : meaning p ≡ parseOf text) (number : p .number ≡ 0) where
+  pub accepted-as : parseOf text ≡ accepted (netlistOf (p .circuit))
+  unfolding meaning
+  accepted-as = sym means ∙ rw (eq-eqb (p .number) 0 number)
+
+  pub accepted-right : WellFormed (netlistOf (p .circuit))
+  accepted-right = well-formed text (netlistOf (p .circuit)) accepted-as

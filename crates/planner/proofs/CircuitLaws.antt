@@ -1,18 +1,15 @@
 -- The circuit call:
 --   coefficients-bounded    every coefficient of an accepted circuit, sound or under a fault, is from -15,360 to 15,360
---   rows-bounded, rows-in-range    its row values are from -60 to 60, within the list call's range
 --   spectrum-room           the list call on such rows refuses by 8 only
 --   text-stop, fault-stop, served    the call's answer and what it leaves, by the parser's answer
-use mathlib.Core.Path.{_≡_, refl, sym, ap, _∙_, subst}
+use mathlib.Core.Path.{_≡_, refl, sym, ap, _∙_}
 use mathlib.Core.List.{List}
 use Prim.Native.Nat.{ℕ, _^_, _<_, _≤_}
 use native.Mathlib.Nat.{mul-le-mul, le-refl}
 use native.Mathlib.Omega.{arith}
-use lib.Dec.{lit≤}
 use lib.IntN.{ℤ}
 use lib.ListN.{length}
-use lib.Pow.{pow-mono}
-use borrow.Author.Tests.{lt-ltb, le-ltb, eq-eqb, ne-eqb}
+use borrow.Author.Tests.{lt-ltb, le-ltb, ne-eqb}
 use Rattle.integer.specs.Tab.{Within}
 use Rattle.integer.proofs.Bounds.{within-more}
 use Rattle.netlist.specs.Circuits.{Netlist, netlistOf, Sized, faultAt}
@@ -21,29 +18,22 @@ use Rattle.simulation.specs.Rows.{rowsOf}
 use Rattle.netlist.specs.WellFormed.{WellFormed}
 use Rattle.netlist.specs.declared.Fault.{Fault}
 use Rattle.netlist.specs.declared.Parsed.{Parsed}
-use Rattle.netlist.proofs.Acceptance.{well-formed}
+use Rattle.netlist.proofs.Acceptance.{well-formed, accepted-as}
 use Rattle.netlist.proofs.Assembling.{meant}
-use Rattle.simulation.proofs.RowBounds.{length-rows, rows-within}
+use Rattle.simulation.proofs.RowBounds.{rows-few, rows-bounded}
 use Rattle.walsh.specs.Answers.{screenOf, inputsOf}
 use Rattle.walsh.specs.Lists.{spectrumAnswer}
 use Rattle.walsh.specs.Spectrum.{spectrumOf}
 use Rattle.walsh.specs.declared.Answer.the-variants.{Refused}
 use Rattle.walsh.proofs.Screens.{inputs-is, within-screened}
 use Rattle.walsh.proofs.Spectra.{within-spectrum}
-use Rattle.planner.proofs.Counts.{faults-counted}
+use Rattle.simulation.proofs.Counts.{faults-counted}
 use Rattle.planner.specs.CircuitCall.{roomAnswer, faultAnswer, circuitAnswer, faultSpectrum, circuitSpectrum}
-
-pub rows-bounded : (n : Netlist) (f : Fault) → WellFormed n → Within 60 (rowsOf n f)
-rows-bounded n f w = rows-within 15 n f (w .outputs-high) (λ k l. w .outputs-right k l .weight-high)
-
-pub rows-in-range : (n : Netlist) (f : Fault) → WellFormed n → Within 1000 (rowsOf n f)
-rows-in-range n f w = within-more {B = 60} {C = 1000} (rowsOf n f) (lit≤ tt) (rows-bounded n f w)
 
 pub spectrum-bounded : (n : Netlist) (f : Fault) → WellFormed n → Within 15360 (spectrumOf (rowsOf n f))
 spectrum-bounded n f w =
     let rows = rowsOf n f in
-    let few : length rows ≤ 256 = subst (λ k. k ≤ 256) (sym (length-rows n f)) (pow-mono (w .inputs-high)) in
-    within-more (spectrumOf rows) (mul-le-mul few (le-refl 60)) (within-spectrum 60 rows (rows-bounded n f w))
+    within-more (spectrumOf rows) (mul-le-mul (rows-few n f w) (le-refl 60)) (within-spectrum 60 rows (rows-bounded n f w))
 
 pub coefficients-bounded : (text : List ℕ) (n : Netlist) (fault : ℕ) → parseOf text ≡ accepted n → Within 15360 (faultSpectrum n fault)
 unfolding faultSpectrum
@@ -63,16 +53,9 @@ module _ (text : List ℕ) (fault room : ℕ) (p : Parsed) (means : meaning p �
   text-stop n = rw (sym means, meant p refl refl n)
 
   module _ (number : p .number ≡ 0) where
-    pub accepted-as : parseOf text ≡ accepted (netlistOf (p .circuit))
-    unfolding meaning
-    accepted-as = sym means ∙ rw (eq-eqb (p .number) 0 number)
-
-    pub right : WellFormed (netlistOf (p .circuit))
-    right = well-formed text (netlistOf (p .circuit)) accepted-as
-
     pub served-spectrum : circuitSpectrum text fault ≡ faultSpectrum (netlistOf (p .circuit)) fault
     unfolding circuitSpectrum
-    served-spectrum = rw accepted-as
+    served-spectrum = rw (accepted-as text p means number)
 
     module _ (size : Sized (p .circuit)) (filled : length (p .circuit .faults) ≡ 32) where
       count : length (netlistOf (p .circuit) .faults) ≡ p .circuit .head .faults
@@ -80,8 +63,8 @@ module _ (text : List ℕ) (fault room : ℕ) (p : Parsed) (means : meaning p �
 
       pub fault-stop : p .circuit .head .faults < fault → circuitAnswer text fault room ≡ Refused 12 0
       unfolding circuitAnswer faultAnswer
-      fault-stop h = rw (accepted-as, count, lt-ltb (p .circuit .head .faults) fault h)
+      fault-stop h = rw (accepted-as text p means number, count, lt-ltb (p .circuit .head .faults) fault h)
 
       pub served : fault ≤ p .circuit .head .faults → circuitAnswer text fault room ≡ roomAnswer (p .circuit .head .inputs) room
       unfolding circuitAnswer faultAnswer netlistOf
-      served h = rw (accepted-as, count, le-ltb (p .circuit .head .faults) fault h)
+      served h = rw (accepted-as text p means number, count, le-ltb (p .circuit .head .faults) fault h)

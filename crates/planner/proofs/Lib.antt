@@ -1,5 +1,4 @@
 pub mod CircuitLaws
-pub mod Counts
 pub mod Demanded
 pub mod FaultRows
 pub mod PlanLaws

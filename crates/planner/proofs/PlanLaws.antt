@@ -40,11 +40,11 @@ use Rattle.netlist.specs.declared.Circuit.{Circuit}
 use Rattle.netlist.specs.declared.Parsed.{Parsed}
 use Rattle.netlist.proofs.Assembling.{meant}
 use Rattle.simulation.specs.Rows.{rowsOf}
-use Rattle.simulation.proofs.RowBounds.{length-rows}
+use Rattle.simulation.proofs.RowBounds.{length-rows, rows-in-range}
 use Rattle.planner.specs.PlanCall.{Verdict, refused, soundRows, faultedRows, searched, silentFirst, verdictOf, workDue, planVerdict, planNumbers, mayUse, WorkKept}
 use Rattle.planner.specs.declared.Planned.{Planned}
-use Rattle.planner.proofs.Counts.{due, due-is, due-few}
-use Rattle.planner.proofs.CircuitLaws.{rows-in-range, accepted-as}
+use Rattle.simulation.proofs.Counts.{due, due-is, due-few}
+use Rattle.netlist.proofs.Acceptance.{accepted-as}
 use Rattle.planner.proofs.FaultRows.{fault-rows-next, fault-count}
 
 -- Marking the faults.
@@ -189,11 +189,11 @@ module _ (text : List ℕ) (work : ℕ) (p : Parsed) (means : meaning p ≡ pars
   module _ (number : p .number ≡ 0) where
     pub verdict-room : work < workDue → planVerdict text work ≡ refused 8 0
     unfolding planVerdict
-    verdict-room h = rw (accepted-as text 0 0 p means number, lt-ltb work workDue h)
+    verdict-room h = rw (accepted-as text p means number, lt-ltb work workDue h)
 
     pub verdict-served : workDue ≤ work → planVerdict text work ≡ verdictOf (netlistOf (p .circuit))
     unfolding planVerdict
-    verdict-served h = rw (accepted-as text 0 0 p means number, le-ltb work workDue h)
+    verdict-served h = rw (accepted-as text p means number, le-ltb work workDue h)
 
 -- The working numbers.
 

@@ -25,7 +25,7 @@ use Rattle.netlist.specs.Circuits.{Netlist, netlistOf, sound as unfaulted}
 use Rattle.netlist.specs.Parsing.{Parse, accepted, rejected, parseOf, meaning}
 use Rattle.netlist.specs.WellFormed.{WellFormed}
 use Rattle.netlist.specs.declared.Parsed.{Parsed}
-use Rattle.netlist.proofs.Acceptance.{well-formed}
+use Rattle.netlist.proofs.Acceptance.{well-formed, accepted-as}
 use Rattle.netlist.proofs.Assembling.{meant}
 use Rattle.netlist.proofs.Refusals.{text-refused}
 use Rattle.simulation.proofs.RowBounds.{length-rows}
@@ -35,7 +35,6 @@ use Rattle.planner.specs.PlanCall.{Verdict, refused, planned, soundRows,
 use Rattle.planner.specs.ReportCall.{planLine, refusedLine, labelLine, faultLine, planLines, verdictLines, reportIn, reportOf, bytesDue, short, reportAnswer, reportLeft, reportVerdict}
 use Rattle.planner.specs.declared.Planned.{Planned}
 use Rattle.planner.specs.declared.Reported.{Reported}
-use Rattle.planner.proofs.CircuitLaws.{accepted-as}
 use Rattle.planner.proofs.FaultRows.{fault-count}
 use Rattle.planner.proofs.PlanLaws.{kept}
 use Rattle.planner.proofs.ReportLines.{refused-length, plan-length, label-line-length, fault-line-length}
@@ -186,7 +185,7 @@ module _ (text : List ℕ) (p : Parsed) (means : meaning p ≡ parseOf text) whe
 
   pub text-serves : p .number ≡ 0 → verdictLines (netlistOf (p .circuit)) (verdictOf (netlistOf (p .circuit))) ≡ reportOf text
   unfolding reportOf
-  text-serves h = sym (ap reportIn (accepted-as text 0 0 p means h))
+  text-serves h = sym (ap reportIn (accepted-as text p means h))
 
 -- by the lent buffers
 module _ (text out work : List ℕ) where

@@ -13,7 +13,7 @@ use native.Mathlib.Decide.{decLe}
 use native.Mathlib.Omega.{arith}
 use lib.Arith.{lt-of-le-ne}
 use lib.Pow.{pow-pos, pow-add, pow-mono, shr-shr, high, low, field, mod-mod-pow}
-use Rattle.walsh.proofs.Halving.{double, which}
+use Rattle.integer.proofs.Halves.{double, which}
 
 abbrev pub digit : ℕ → ℕ → ℕ
 digit b x = x / 2 ^ b % 2

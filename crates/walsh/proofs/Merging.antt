@@ -19,7 +19,8 @@ use Rattle.integer.proofs.Bounds.{within-take, within-drop, within-append, with
 use Rattle.integer.proofs.Tabs.{tab-ext, tab-split}
 use Rattle.walsh.specs.Spectrum.{termOf, signedSum, coefficientOf, spectrumOf}
 use Rattle.walsh.specs.Steps.{halvesMixed}
-use Rattle.walsh.proofs.Halving.{sum-low, sum-high, sum-equal, upper, double}
+use Rattle.integer.proofs.Halves.{double}
+use Rattle.walsh.proofs.Halving.{sum-low, sum-high, sum-equal, upper}
 use Rattle.walsh.proofs.Spectra.{length-spectrum, nth-spectrum, spectrum-tab, within-spectrum}
 
 -- one number is its own spectrum

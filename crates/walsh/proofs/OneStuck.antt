@@ -3,19 +3,17 @@
 --   length-stuck-to                     its length
 --   read-ahead, turn                    a turn reads numbers that are as they came, and writes one
 --   once-joined, once-named             the number that a turn writes
---   bit-is, partner-below               2 ^ (input - 1) as a shift, and the label that adds the input
+--   partner-below                       the label that adds the input
 --   stuck-from, from-none               the list when the lines from i on are stuck, at the start
 --   from-length, from-within            its length, and its bound
 --   from-line, from-step                one line more
 use mathlib.Core.Path.{_≡_, refl, sym, ap, ap₂, _∙_, subst}
 use mathlib.Core.List.{List, _∷_, _++_, append-nil}
 use mathlib.Core.Bool.{Bool, true, cond}
-use Prim.Native.Nat.{ℕ, suc, _+_, _*_, _-_, _%_, _^_, _≤_, _<_}
-use native.Mathlib.Nat.{one-mul}
+use Prim.Native.Nat.{ℕ, suc, _+_, _-_, _^_, _≤_, _<_}
 use native.Mathlib.Omega.{arith}
 use lib.IntN.{ℤ, pos, _+ℤ_}
 use lib.ListN.{length, getD, drop, set, length-drop}
-use lib.Pow.{shl-exact}
 use lib.Seq.{drop-length, drop-cons}
 use borrow.Author.Tests.{eq-eqb, ne-eqb}
 use Rattle.integer.specs.Sum.{signed}
@@ -28,9 +26,6 @@ use Rattle.walsh.proofs.Arguments.{rising-rises, rising-suffix, length-
 use Rattle.walsh.proofs.Digits.{add-below}
 use Rattle.walsh.proofs.Screens.{inputs-power}
 use Rattle.walsh.proofs.Sticking.{Rises, length-stuck, stuck-none, stuck-step, within-stuck}
-
-pub bit-is : (shift : ℕ) → shift ≤ 10 → (1 * 2 ^ shift) % 2 ^ 64 ≡ 2 ^ shift
-bit-is shift h = shl-exact {a = 1} 1 shift 64 (omega arith) (omega arith) ∙ one-mul (2 ^ shift)
 
 pub partner-below : (input n i : ℕ) → 1 ≤ input → input ≤ inputsOf n → i < n → bitOf input i ≡ 0 → i + 2 ^ (input - 1) < n
 partner-below input n i first last h e =

@@ -30,7 +30,7 @@ use Rattle.walsh.specs.Lists.{quotientOf, quotientAt, quotientsOf, unfit
 use Rattle.walsh.specs.declared.Answer.{Answer}
 use Rattle.walsh.specs.declared.Answer.the-variants.{Done, Refused}
 use Rattle.walsh.specs.Faults.{names, subsetSum, stuckAt, stuckSpectrumOf, bitOf, keptInputs, linesAfter, openedSumAt, openedAt, openedSpectrumOf, undividedAt, firstUndivided, undividedAnswer, openedRowNumber, openedRow, openedRows}
-use Rattle.walsh.proofs.Halving.{double}
+use Rattle.integer.proofs.Halves.{double}
 use Rattle.walsh.proofs.Sticking.{half-chosen, subset-size, within-all}
 use Rattle.walsh.proofs.Screens.{small-outside}
 use Rattle.walsh.proofs.Spectra.{length-spectrum, nth-spectrum, spectrum-rule}

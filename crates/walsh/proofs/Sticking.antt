@@ -27,7 +27,8 @@ use Rattle.walsh.specs.Faults.{Stuck, bitOf, names, subsetSum, stuckAt, 
 use Rattle.walsh.specs.Steps.{stuckOnceAt, stuckOnce}
 use Rattle.walsh.proofs.Digits.{digit, put, put-low-half, put-high-half, put-above, digit-low-half, digit-high-half, digit-above, put-below, add-below, digit-beyond}
 use Rattle.walsh.proofs.Spectra.{length-spectrum, nth-spectrum, spectrum-rule}
-use Rattle.walsh.proofs.Halving.{upper, double, which, sum-equal, sum-low, sum-high}
+use Rattle.integer.proofs.Halves.{double, which}
+use Rattle.walsh.proofs.Halving.{upper, sum-equal, sum-low, sum-high}
 
 -- One digit replaced.
 

@@ -6,7 +6,8 @@ use Prim.Native.Nat.{ℕ, _<_, _≤_, _^_}
 use lib.ListN.{getD}
 use lib.Pow.{pow-mono}
 use Rattle.integer.proofs.Bools.{clash}
-use Rattle.cover.proofs.Marking.{bit-is, work-length, work-within, spectrum-length, marked-by}
+use Rattle.integer.proofs.Machine.{bit-is}
+use Rattle.cover.proofs.Marking.{work-length, work-within, spectrum-length, marked-by}
 use Rattle.cover.proofs.marks.mark_by.Statement.{statement}
 use Rattle.cover.proofs.marks.mark_by.Tie as tie
 
@@ -42,7 +43,7 @@ add-marks-requires c κs =
     let l = c .before .before .before .before .before .before .before .before .before .before .before in
     let a = l .args in
     let size = spectrum-length (a .sound .now) (a .faulted .now) _ (l .pre .0 .3) (d .ensures .1) _ (t .ensures) in
-    let bit = bit-is (a .fault) (l .pre .0 .1) in
+    let bit = bit-is 32 (a .fault) (l .pre .0 .1) in
     let last : a .fault ≤ 31 = omega arith in (
       (l .pre .1 .0 .0 ∙ sym (l .pre .1 .0 .1), λ i h. subst (λ (n : ℕ). getD (a .labels .now) i 0 < n) (sym size) (l .pre .1 .1 .0 .0 i h)),
       (λ i h. subst (λ (n : ℕ). getD (a .masks .now) i 0 < n) (sym bit) (l .pre .1 .1 .0 .1 i h), subst (λ (n : ℕ). n ≤ 2 ^ 31) (sym bit) (pow-mono last)),

@@ -13,7 +13,9 @@ use Rattle.netlist.specs.declared.Fault.{Fault}
 use Rattle.walsh.specs.Answers.{leaves}
 use Rattle.walsh.specs.Spectrum.{spectrumOf}
 use Rattle.planner.specs.CircuitCall.{faultSpectrum}
-use Rattle.planner.proofs.CircuitLaws.{rows-in-range, text-stop, fault-stop, right, served, served-spectrum}
+use Rattle.netlist.proofs.Acceptance.{accepted-right}
+use Rattle.simulation.proofs.RowBounds.{rows-in-range}
+use Rattle.planner.proofs.CircuitLaws.{text-stop, fault-stop, served, served-spectrum}
 use Rattle.planner.proofs.circuit_call.circuit_spectrum.Statement.{statement}
 use Rattle.planner.proofs.circuit_call.circuit_spectrum.Tie as tie
 
@@ -40,7 +42,7 @@ unfolding netlistOf
 fault-spectrum-requires c κs =
     let a = c .before .before .before .before .before .before .before .before .args in
     let p = c .before .before .before .before .before .before .parse in
-    let w = right (now (a .text)) (a .fault) 0 (p .result) (p .ensures .0) (c .before .before .before .before .before .if1 .left) in
+    let w = accepted-right (now (a .text)) (p .result) (p .ensures .0) (c .before .before .before .before .before .if1 .left) in
     let n = netlistOf (p .result .circuit) in
     let f = c .before .fault-at .result in
     ((p .ensures .1, w .inputs-low), rows-in-range n f w)

@@ -3,7 +3,7 @@ use borrow.Author.Needs.{needs}
 use Prim.Native.Nat.{_^_}
 use mathlib.Core.Path.{sym, _∙_}
 use lib.Seq.{length-take-le}
-use Rattle.planner.proofs.Counts.{due-is, due-few}
+use Rattle.simulation.proofs.Counts.{due-is, due-few}
 use Rattle.planner.proofs.circuit_call.fault_spectrum.Statement.{statement}
 use Rattle.planner.proofs.circuit_call.fault_spectrum.Tie as tie
 

@@ -11,7 +11,7 @@ use Rattle.integer.proofs.Tabs.{length-mapped}
 use Rattle.netlist.specs.Circuits.{netlistOf}
 use Rattle.simulation.specs.Rows.{rowsOf}
 use Rattle.planner.specs.PlanCall.{soundRows, faultedRows}
-use Rattle.planner.proofs.Counts.{faults-counted}
+use Rattle.simulation.proofs.Counts.{faults-counted}
 use Rattle.planner.proofs.PlanLaws.{Heard, Turn, heard-none, heard-stop, heard-more, heard-all, may-mark}
 use Rattle.planner.proofs.plan_call.mark_faults.Statement.{statement}
 use Rattle.planner.proofs.plan_call.mark_faults.Tie as tie

@@ -7,8 +7,8 @@ use denote.Ref.{now}
 use lib.ListN.{length}
 use lib.Seq.{length-take-le}
 use Rattle.planner.specs.PlanCall.{planNumbers, planAnswer}
-use Rattle.planner.proofs.CircuitLaws.{right}
-use Rattle.planner.proofs.Counts.{due-is, due-fits}
+use Rattle.netlist.proofs.Acceptance.{accepted-right}
+use Rattle.simulation.proofs.Counts.{due-is, due-fits}
 use Rattle.planner.proofs.PlanLaws.{verdict-text, verdict-room, verdict-served, kept, front-used}
 use Rattle.planner.proofs.plan_call.plan.Statement.{statement}
 use Rattle.planner.proofs.plan_call.plan.Tie as tie
@@ -55,7 +55,7 @@ plan-circuit-requires c κs =
     let t = c .before .before .before in
     let a = t .before .before .before .before .before .args in
     let p = t .before .before .parse in
-    (p .ensures .1, right (now (a .text)) 0 0 (p .result) (p .ensures .0) (t .before .if1 .left), length-take-le _ _ (room t) ∙ due-is (p .result .circuit) (p .ensures .1))
+    (p .ensures .1, accepted-right (now (a .text)) (p .result) (p .ensures .0) (t .before .if1 .left), length-take-le _ _ (room t) ∙ due-is (p .result .circuit) (p .ensures .1))
 
 same-length : tie.Need-same-length
 same-length c = search needs

@@ -8,7 +8,7 @@ use Rattle.integer.proofs.Tabs.{length-mapped}
 use Rattle.netlist.specs.Circuits.{netlistOf}
 use Rattle.simulation.specs.Rows.{rowsOf}
 use Rattle.planner.specs.PlanCall.{planNumbers}
-use Rattle.planner.proofs.Counts.{faults-counted}
+use Rattle.simulation.proofs.Counts.{faults-counted}
 use Rattle.planner.proofs.PlanLaws.{Ready, all-loud, may-find, plan-silent, plan-none, plan-found}
 use Rattle.planner.proofs.plan_call.plan_by.Statement.{statement}
 use Rattle.planner.proofs.plan_call.plan_by.Tie as tie

@@ -5,7 +5,7 @@ use Prim.Native.Nat.{_*_, _%_, _^_, _≤_}
 use mathlib.Core.Path.{_≡_, sym, _∙_}
 use lib.ListN.{length}
 use lib.Seq.{length-take-le}
-use Rattle.planner.proofs.Counts.{due-is, due-few, due-fits}
+use Rattle.simulation.proofs.Counts.{due-is, due-few, due-fits}
 use Rattle.planner.proofs.PlanLaws.{front-labels}
 use Rattle.planner.proofs.plan_call.plan_circuit.Statement.{statement}
 use Rattle.planner.proofs.plan_call.plan_circuit.Tie as tie

@@ -17,8 +17,8 @@ use Rattle.text.specs.Writing.{lineOf}
 use Rattle.walsh.specs.Spectrum.{spectrumOf}
 use Rattle.planner.specs.PlanCall.{soundRows, faultedRows}
 use Rattle.planner.specs.ReportCall.{faultLine}
-use Rattle.planner.proofs.CircuitLaws.{rows-in-range}
-use Rattle.planner.proofs.Counts.{faults-counted}
+use Rattle.simulation.proofs.RowBounds.{rows-in-range}
+use Rattle.simulation.proofs.Counts.{faults-counted}
 use Rattle.planner.proofs.ReportLines.{spectrum-left, spectrum-ready, fault-line-length, fault-read, read-room, read-written}
 use Rattle.planner.proofs.report_call.fault_line.Statement.{statement}
 use Rattle.planner.proofs.report_call.fault_line.Tie as tie

@@ -11,7 +11,7 @@ use Rattle.text.specs.Writing.{gather}
 use Rattle.text.proofs.Writings.{Written, none-written, as-long, text-more, all-written, all-fit, next-fits}
 use Rattle.planner.specs.PlanCall.{soundRows, faultedRows}
 use Rattle.planner.specs.ReportCall.{faultLine}
-use Rattle.planner.proofs.Counts.{faults-counted}
+use Rattle.simulation.proofs.Counts.{faults-counted}
 use Rattle.planner.proofs.ReportLines.{fault-line-length}
 use Rattle.planner.proofs.report_call.fault_lines.Statement.{statement}
 use Rattle.planner.proofs.report_call.fault_lines.Tie as tie

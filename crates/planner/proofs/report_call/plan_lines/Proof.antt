@@ -2,7 +2,7 @@
 use borrow.Author.Needs.{needs}
 use mathlib.Core.Path.{sym, _∙_}
 use lib.Seq.{length-take-le}
-use Rattle.planner.proofs.Counts.{due-is, due-few}
+use Rattle.simulation.proofs.Counts.{due-is, due-few}
 use Rattle.planner.proofs.report_call.plan_lines.Statement.{statement}
 use Rattle.planner.proofs.report_call.plan_lines.Tie as tie
 

@@ -12,9 +12,9 @@ use Rattle.text.specs.Writing.{placed, gather}
 use Rattle.walsh.specs.Spectrum.{spectrumOf}
 use Rattle.planner.specs.PlanCall.{soundRows, faultedRows}
 use Rattle.planner.specs.ReportCall.{planLine, labelLine, faultLine}
-use Rattle.planner.proofs.CircuitLaws.{rows-in-range}
+use Rattle.simulation.proofs.RowBounds.{rows-in-range}
 use Rattle.planner.proofs.FaultRows.{fault-count}
-use Rattle.planner.proofs.Counts.{faults-counted}
+use Rattle.simulation.proofs.Counts.{faults-counted}
 use Rattle.planner.proofs.ReportLaws.{labels-room, faults-room, plan-written}
 use Rattle.planner.proofs.ReportLines.{spectrum-left, spectrum-ready, label-lines-same, plan-length, plan-read, read-room, read-written}
 use Rattle.planner.proofs.report_call.plan_lines_by.Statement.{statement}

@@ -9,8 +9,8 @@ use lib.Seq.{length-take-le}
 use Rattle.netlist.specs.Circuits.{netlistOf}
 use Rattle.netlist.specs.WellFormed.{WellFormed}
 use Rattle.netlist.specs.declared.Circuit.{Circuit}
-use Rattle.planner.proofs.CircuitLaws.{right}
-use Rattle.planner.proofs.Counts.{due-is, due-fits}
+use Rattle.netlist.proofs.Acceptance.{accepted-right}
+use Rattle.simulation.proofs.Counts.{due-is, due-fits}
 use Rattle.planner.proofs.PlanLaws.{verdict-served, kept, front-used}
 use Rattle.planner.proofs.ReportLaws.{text-refuses, text-serves, front-same}
 use Rattle.planner.proofs.report_call.text_lines.Statement.{statement}
@@ -25,7 +25,7 @@ room t =
     due-fits (circuit t) (t .before .parse .ensures .1) (now (s .args .work)) (omega (arith, s .pre .1))
 
 formed : (t : tie.Else1) → WellFormed (netlistOf (circuit t))
-formed t = let p = t .before .parse in right (now (t .before .before .before .before .before .args .text)) 0 0 (p .result) (p .ensures .0) (t .if1 .left)
+formed t = let p = t .before .parse in accepted-right (now (t .before .before .before .before .before .args .text)) (p .result) (p .ensures .0) (t .if1 .left)
 
 parse-requires : tie.Need-parse-requires
 parse-requires c κs = search needs

@@ -16,7 +16,7 @@ use Rattle.walsh.specs.Steps.{keptOf}
 use Rattle.walsh.specs.declared.Answer.{Answer}
 use Rattle.walsh.specs.declared.Answer.the-variants.{Done}
 use Rattle.walsh.proofs.Arguments.{kept-is, kept-right, kept-most}
-use Rattle.walsh.proofs.OneStuck.{bit-is}
+use Rattle.integer.proofs.Machine.{bit-is}
 use Rattle.walsh.proofs.Screens.{Ready, ready, screen-due}
 use Rattle.walsh.proofs.faults.opened.Statement.{statement}
 use Rattle.walsh.proofs.faults.opened.Tie as tie
@@ -54,7 +54,7 @@ module _ (s : tie.After-kept-inputs) where
   right = ap (ltb 0) kept ∙ sym (kept-right (inputsOf (length C)) Values)
 
   due : Right ≡ true → (1 * 2 ^ s .kept-inputs .result) % 2 ^ 64 ≡ 2 ^ keptInputs C Values
-  due e = bit-is (s .kept-inputs .result) few ∙ ap (λ (n : ℕ). 2 ^ n) (kept ∙ kept-is (inputsOf (length C)) Values e)
+  due e = bit-is 64 (s .kept-inputs .result) (omega (arith, few)) ∙ ap (λ (n : ℕ). 2 ^ n) (kept ∙ kept-is (inputsOf (length C)) Values e)
 
   abbrev Answered : Answer
   Answered = screenOf (minus 2048000) (pos 2048000) Right C Room (2 ^ keptInputs C Values)
@@ -95,7 +95,7 @@ module _ (t : tie.After-enum-told) where
   some = ltb-true 0 (T .kept-inputs .result) (right T ∙ known .right)
 
   fits : 2 ^ T .kept-inputs .result ≤ Room T
-  fits = let f = known .fits in omega (arith, due T (known .right), bit-is (T .kept-inputs .result) (few T))
+  fits = let f = known .fits in omega (arith, due T (known .right), bit-is 64 (T .kept-inputs .result) (omega (arith, few T)))
 
 array-borrow-prefix-work : tie.Need-array-borrow-prefix-work
 array-borrow-prefix-work c = known c .few

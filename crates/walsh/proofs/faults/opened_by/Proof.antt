@@ -15,7 +15,7 @@ use Rattle.walsh.specs.Answers.{leaves, minus, inputsOf}
 use Rattle.walsh.specs.Faults.{stuckSpectrumOf, rising, linesAfter}
 use Rattle.walsh.specs.Lists.{dividedAnswer, quotientsOf}
 use Rattle.walsh.proofs.Arguments.{OpenedCall, opened-call, lines-after, rising-after}
-use Rattle.walsh.proofs.OneStuck.{bit-is}
+use Rattle.integer.proofs.Machine.{bit-is}
 use Rattle.walsh.proofs.Opening.{openedSums, opened-sums, sums-answer, sums-quotients}
 use Rattle.walsh.proofs.Sticking.{length-stuck}
 use Rattle.walsh.proofs.faults.opened_by.Statement.{statement}
@@ -49,10 +49,10 @@ module _ (s : tie.Start) where
 
   -- the shifts are powers of two
   due : (1 * 2 ^ N) % 2 ^ 64 ≡ 2 ^ N
-  due = bit-is N (known .most)
+  due = bit-is 64 N (let f = known .most in omega arith)
 
   divisor : (1 * 2 ^ K) % 2 ^ 64 ≡ 2 ^ K
-  divisor = bit-is K (let f = known .few in omega arith)
+  divisor = bit-is 64 K (let f = known .few in omega arith)
 
 add-t13 : tie.Need-add-t13
 add-t13 c = let m = known (c .before .before .before .before) .most in omega arith

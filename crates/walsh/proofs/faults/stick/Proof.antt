@@ -15,7 +15,8 @@ use Rattle.integer.specs.Tab.{nth}
 use Rattle.integer.proofs.Machine.{reads as read-back}
 use Rattle.walsh.specs.Steps.{stuckOnceAt}
 use Rattle.walsh.proofs.Screens.{inputs-most}
-use Rattle.walsh.proofs.OneStuck.{stuck-to, stuck-start, stuck-end, length-stuck-to, read-ahead, turn, partner-below, once-joined, once-named, bit-is}
+use Rattle.integer.proofs.Machine.{bit-is}
+use Rattle.walsh.proofs.OneStuck.{stuck-to, stuck-start, stuck-end, length-stuck-to, read-ahead, turn, partner-below, once-joined, once-named}
 use Rattle.walsh.proofs.faults.stick.Statement.{statement}
 use Rattle.walsh.proofs.faults.stick.Tie as tie
 
@@ -64,7 +65,7 @@ module _ (t : tie.Then1 Inv-loop μ-loop) where
   Y = nth A (I + 2 ^ (S - 1))
 
   bit : (1 * 2 ^ (S - 1)) % 2 ^ 64 ≡ 2 ^ (S - 1)
-  bit = bit-is (S - 1) (omega (arith, inputs-most (length A)))
+  bit = bit-is 64 (S - 1) (omega (arith, inputs-most (length A)))
 
   below : I + 2 ^ (S - 1) < length A
   below = let p = t .before .before .before .pre .0 in partner-below S (length A) I (p .0) (p .1) (omega arith) (t .if1 .taken)

@@ -1,6 +1,6 @@
 -- Counts of a circuit as the code has them:
---   faults-counted             the number of faults
---   due-is, due-few, due-fits  2^N as the code computes it; it fits every local array
+--   faults-counted, outputs-counted    the number of faults and of outputs
+--   due-is, due-few, due-fits          2^N as the code computes it; it fits every local array
 use mathlib.Core.List.{List}
 use mathlib.Core.Path.{_≡_, sym, subst}
 use Prim.Native.Nat.{ℕ, _*_, _%_, _^_, _≤_}
@@ -9,21 +9,25 @@ use native.Mathlib.Omega.{arith}
 use lib.ListN.{length}
 use lib.Pow.{pow-mono}
 use lib.Seq.{length-take-le}
+use Rattle.integer.proofs.Machine.{bit-is}
 use Rattle.netlist.specs.Circuits.{netlistOf, Sized}
 use Rattle.netlist.specs.declared.Circuit.{Circuit}
-use Rattle.walsh.proofs.OneStuck.{bit-is}
 
 module _ (c : Circuit) (size : Sized c) where
-  -- the array of faults is full, past the faults of the text too
+  -- the arrays are full, past the faults and outputs of the text too
   pub faults-counted : length (c .faults) ≡ 32 → length (netlistOf c .faults) ≡ c .head .faults
   unfolding netlistOf
   faults-counted full = length-take-le (c .head .faults) (c .faults) (omega (arith, size .faults))
+
+  pub outputs-counted : length (c .outputs) ≡ 4 → length (netlistOf c .outputs) ≡ c .head .outputs
+  unfolding netlistOf
+  outputs-counted full = length-take-le (c .head .outputs) (c .outputs) (omega (arith, size .outputs))
 
   abbrev pub due : ℕ
   due = (1 * 2 ^ c .head .inputs) % 2 ^ 64
 
   pub due-is : due ≡ 2 ^ c .head .inputs
-  due-is = bit-is (c .head .inputs) (omega (arith, size .inputs))
+  due-is = bit-is 64 (c .head .inputs) (omega (arith, size .inputs))
 
   pub due-few : due ≤ 256
   due-few = subst (λ (n : ℕ). n ≤ 256) (sym due-is) (pow-mono (size .inputs))
