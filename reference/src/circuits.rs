@@ -41,6 +41,12 @@ pub const TWO_OUTPUTS: &str = "circuit,2,4,2,2,1\n\
     gate,xor,1,1\ngate,xor,1,1\ngate,xor,1,3\ngate,xor,2,4\n\
     output,5,1\noutput,6,1\nfault,3,1\nfault,4,1\n";
 
+/// x8 or x1x2..x7, 1 on half of the rows and one more; that product, line 14, is
+/// stuck.
+pub const HALF_AND_A_ROW: &str = "circuit,8,7,1,1,1\n\
+    gate,and,1,2\ngate,and,3,9\ngate,and,4,10\ngate,and,5,11\ngate,and,6,12\n\
+    gate,and,7,13\ngate,or,8,14\noutput,15,1\nfault,14,0\n";
+
 /// The text with its line `place` replaced.
 pub fn with_line(text: &str, place: usize, line: &str) -> Vec<u8> {
     let mut lines: Vec<&str> = text.lines().collect();

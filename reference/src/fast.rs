@@ -1,9 +1,11 @@
 //! What the benchmark holds the library against: the plain fast transform, the
 //! usual three nested loops in place, behind the same tests as the list call;
-//! and the calls on texts with that transform.
+//! the calls on texts with that transform; and the readings, summed and divided
+//! in binary64.
 
 use crate::netlist;
 use crate::plan::{order, CAP_LIMIT, WORKING_NUMBERS};
+use crate::reading::{test_fault, test_fixture};
 use crate::report::{lines, refusal_line, REPORT_ROOM};
 use crate::walsh::{refuse, test_length, test_range, test_room, Refusal, ROW_LIMIT};
 
@@ -150,13 +152,43 @@ pub fn report(text: &[u8], room: usize, working: usize) -> Result<Vec<u8>, Refus
     Ok(report.into_bytes())
 }
 
+/// The mean of the rows that agree.
+fn mean(rows: &[i32], mask: usize, values: usize) -> f64 {
+    let (mut sum, mut count) = (0.0, 0.0);
+    for (row, &value) in rows.iter().enumerate() {
+        if row & mask == values {
+            sum += f64::from(value);
+            count += 1.0;
+        }
+    }
+    sum / count
+}
+
+pub fn reading(text: &[u8], mask: u32, values: u32) -> Result<f64, Refusal> {
+    let netlist = netlist::parse(text)?;
+    test_fixture(&netlist, mask, values)?;
+    let sound = netlist.rows(0)?;
+    Ok(mean(&sound, mask as usize, values as usize))
+}
+
+/// The readings and their difference.
+pub fn pair(text: &[u8], fault: u32, mask: u32, values: u32) -> Result<[f64; 3], Refusal> {
+    let netlist = netlist::parse(text)?;
+    test_fixture(&netlist, mask, values)?;
+    test_fault(&netlist, fault)?;
+    let rows = [netlist.rows(0)?, netlist.rows(fault)?];
+    let [sound, faulty] = rows.map(|rows| mean(&rows, mask as usize, values as usize));
+    Ok([sound, faulty, sound - faulty])
+}
+
 #[cfg(test)]
 mod tests {
     use super::*;
     use crate::circuits::{largest_report, worst_search, Draft, Sizes, Sketch};
     use crate::outcomes::{answer, compare, Outcomes};
     use crate::random::Random;
-    use crate::{plan, report, walsh};
+    use crate::reading::Reading;
+    use crate::{plan, reading, report, walsh};
 
     #[test]
     fn equals_the_direct_sums() {
@@ -241,5 +273,40 @@ mod tests {
             super::report(&text, REPORT_ROOM - 1, WORKING_NUMBERS),
             refuse(8, 0)
         );
+    }
+
+    #[test]
+    fn readings_equal_the_whole_numbers() {
+        let mut random = Random::new(11);
+        let mut outcomes = Outcomes::default();
+        for _ in 0..400 {
+            let sizes = Sizes::draw(&mut random);
+            let mut text = Draft::draw(&mut random, sizes).text();
+            if random.once_in(10) {
+                text.pop();
+            }
+            let mask = random.below((1 << sizes.inputs) + 1) as u32;
+            let values = match random.below(10) {
+                0 => random.below(1 << sizes.inputs) as u32,
+                _ => random.noise() as u32 & mask,
+            };
+            let due = match reading::reading(&text, mask, values) {
+                Reading::PlainSyndrome { bits }
+                | Reading::WeightedSum { bits }
+                | Reading::Constrained { bits, .. } => Ok(bits),
+                Reading::Refused(refusal) => Err(refusal),
+            };
+            let found = super::reading(&text, mask, values).map(f64::to_bits);
+            assert_eq!(found, due, "mask {mask}, values {values}, {sizes:?}");
+            outcomes.note(answer(&due).number);
+            for fault in 0..=sizes.faults as u32 + 1 {
+                let due = reading::pair(&text, fault, mask, values)
+                    .map(|pair| [pair.sound, pair.faulty, pair.difference]);
+                let found = super::pair(&text, fault, mask, values);
+                let found = found.map(|readings| readings.map(f64::to_bits));
+                assert_eq!(found, due, "fault {fault}, mask {mask}, values {values}");
+            }
+        }
+        outcomes.assert_seen(&[(0, 200), (2, 20), (12, 20)]);
     }
 }

@@ -9,6 +9,7 @@ pub mod netlist;
 pub mod outcomes;
 pub mod plan;
 pub mod random;
+pub mod reading;
 pub mod report;
 pub mod vectors;
 pub mod walsh;

@@ -46,9 +46,33 @@ pub struct Report {
     pub length: usize,
 }
 
+/// What the reading call gives back: the case (1 plain syndrome, 2 weighted sum,
+/// 3 constrained), the number of fixed inputs and the reading; else the refusal
+/// and its place, and 0 in all the rest. Readings are compared by their bits.
+#[repr(C)]
+#[derive(Clone, Copy, Debug)]
+pub struct Measured {
+    pub number: u32,
+    pub kind: u32,
+    pub fixed: u32,
+    pub place: usize,
+    pub value: f64,
+}
+
+/// What the pair call gives back: three readings, all 0 with a refusal.
+#[repr(C)]
+#[derive(Clone, Copy, Debug)]
+pub struct Compared {
+    pub number: u32,
+    pub place: usize,
+    pub sound: f64,
+    pub faulty: f64,
+    pub difference: f64,
+}
+
 /// The C interface itself.
 mod doors {
-    use super::{Answer, Found, Plan, Report, Span};
+    use super::{Answer, Compared, Found, Measured, Plan, Report, Span};
 
     extern "C" {
         pub fn walsh_coefficient(rows: *const i32, rows_len: usize, label: u32) -> Found;
@@ -104,6 +128,14 @@ mod doors {
             work: *mut u32,
             work_len: usize,
         ) -> Report;
+        pub fn walsh_reading(text: *const u8, text_len: usize, mask: u32, values: u32) -> Measured;
+        pub fn walsh_pair(
+            text: *const u8,
+            text_len: usize,
+            fault: u32,
+            mask: u32,
+            values: u32,
+        ) -> Compared;
     }
 }
 
@@ -197,4 +229,14 @@ pub fn report(text: &[u8], out: &mut [u8], work: &mut [u32]) -> Report {
             work.len(),
         )
     }
+}
+
+pub fn reading(text: &[u8], mask: u32, values: u32) -> Measured {
+    // SAFETY: pointer and length are those of one live slice.
+    unsafe { doors::walsh_reading(text.as_ptr(), text.len(), mask, values) }
+}
+
+pub fn pair(text: &[u8], fault: u32, mask: u32, values: u32) -> Compared {
+    // SAFETY: pointer and length are those of one live slice.
+    unsafe { doors::walsh_pair(text.as_ptr(), text.len(), fault, mask, values) }
 }

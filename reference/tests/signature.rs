@@ -88,7 +88,12 @@ fn lengths_around_the_limit() {
         text.resize(length, b'x');
         assert_reports_at_once("padded", &text);
         let halves = text.split_at(length / 2);
-        assert_reports("halves", &text, &[halves.0, halves.1], Duration::from_millis(5));
+        assert_reports(
+            "halves",
+            &text,
+            &[halves.0, halves.1],
+            Duration::from_millis(5),
+        );
     }
     for length in [65_536, 65_537, 1_000_000] {
         let mut text = LISTING.as_bytes().to_vec();

@@ -1,10 +1,17 @@
 -- The structs of the C interface give document 01's number and values of an answer.
 use mathlib.Core.Path.{_≡_}
+use Prim.Native.Nat.{ℕ}
+use Rattle.fixture.specs.declared.Compared.{Compared}
 use Rattle.planner.specs.declared.Planned.{Planned}
 use Rattle.planner.specs.declared.Reported.{Reported}
+use Rattle.reading.specs.Readings.{numberOf as readingNumber, placeOf as readingPlace, readingOf, fixedOf}
+use Rattle.reading.specs.declared.Reading.{Reading}
+use Rattle.reading.specs.declared.Reading.the-variants.{Syndrome, Weighted, Constrained, Refused}
 use Rattle.walsh.specs.Answers.{numberOf, placeOf, foundNumber, foundPlace, foundValue}
 use Rattle.walsh.specs.declared.Answer.{Answer}
 use Rattle.walsh.specs.declared.Found.{Found}
+use Rattle.capi.specs.declared.Comparison.{Comparison}
+use Rattle.capi.specs.declared.Measured.{Measured}
 use Rattle.capi.specs.declared.Reply.{Reply}
 use Rattle.capi.specs.declared.Signature.{Signature}
 use Rattle.capi.specs.declared.Sum.{Sum}
@@ -28,3 +35,24 @@ pub record GivesPlan (r : Signature) (a : Planned) : Type 0 where
 pub record GivesReport (r : Written) (a : Reported) : Type 0 where
   pub number : r .number ≡ a .number
   pub bytes : r .bytes ≡ a .bytes
+
+-- the case of a reading, 0 for a refusal
+abbrev pub kindOf : Reading → ℕ
+kindOf (Syndrome x) = 1
+kindOf (Weighted x) = 2
+kindOf (Constrained x fixed) = 3
+kindOf (Refused number place) = 0
+
+pub record GivesReading (r : Measured) (a : Reading) : Type 0 where
+  pub number : r .number ≡ readingNumber a
+  pub kind : r .kind ≡ kindOf a
+  pub fixed : r .fixed ≡ fixedOf a
+  pub place : r .place ≡ readingPlace a
+  pub value : r .value ≡ readingOf a
+
+pub record GivesPair (r : Comparison) (a : Compared) : Type 0 where
+  pub number : r .number ≡ a .number
+  pub place : r .place ≡ a .place
+  pub sound : r .sound ≡ a .readings .sound
+  pub faulty : r .faulty ≡ a .readings .faulty
+  pub difference : r .difference ≡ a .readings .difference

@@ -1,9 +1,11 @@
 // The calls for C and Rust: numbers and slices in (a slice as a pointer and a length), a `#[repr(C)]` struct out. An exported function cannot
 // return an enum, so the structs give document 01's number and place of each answer, by the definitions that the calls' own promises cite.
+use reading::Reading;
 use walsh::Answer;
 use walsh::Found;
 ghost use mathlib.Core.Path.{_≡_};
 ghost use lib.ListN.{length};
+ghost use Rattle.fixture.specs.ReadingCall.{readingAnswer, pairAnswer};
 ghost use Rattle.planner.specs.CircuitCall.{circuitAnswer, circuitSpectrum};
 ghost use Rattle.planner.specs.PlanCall.{planVerdict, planAnswer, WorkKept};
 ghost use Rattle.planner.specs.ReportCall.{reportAnswer, reportLeft, reportVerdict};
@@ -12,7 +14,7 @@ ghost use Rattle.walsh.specs.Answers.{leaves, foundOf};
 ghost use Rattle.walsh.specs.Faults.{stuckOf, stuckAnswer, stuckSpectrumOf, openedAnswer, openedSpectrumOf};
 ghost use Rattle.walsh.specs.Lists.{spectrumAnswer, rowsAnswer, rowsOf};
 ghost use Rattle.walsh.specs.Spectrum.{spectrumOf};
-ghost use Rattle.capi.specs.Replies.{Gives, GivesFound, GivesPlan, GivesReport};
+ghost use Rattle.capi.specs.Replies.{Gives, GivesFound, GivesPlan, GivesReport, GivesReading, GivesPair};
 
 // Number 0 where the call is done.
 #[repr(C)]
@@ -43,6 +45,27 @@ pub struct Signature {
 pub struct Written {
     pub number: u32,
     pub bytes: usize,
+}
+
+// Number 0 with a reading: kind 1 a plain syndrome, 2 a weighted sum, 3 a constrained value with its number of fixed inputs. All else is 0 with a
+// refusal, and `fixed` where no input is.
+#[repr(C)]
+pub struct Measured {
+    pub number: u32,
+    pub kind: u32,
+    pub fixed: u32,
+    pub place: usize,
+    pub value: f64,
+}
+
+// Number 0 with the readings, which are 0 with a refusal.
+#[repr(C)]
+pub struct Comparison {
+    pub number: u32,
+    pub place: usize,
+    pub sound: f64,
+    pub faulty: f64,
+    pub difference: f64,
 }
 
 // A part of a lent text.
@@ -160,6 +183,59 @@ pub extern "C" fn walsh_report(text: &[u8], out: &mut [u8], work: &mut [u32]) ->
     Written {
         number: r.number,
         bytes: r.bytes,
+    }
+}
+
+// The reading of the text's circuit with the inputs of the mask at the values.
+#[no_mangle]
+pub extern "C" fn walsh_reading(text: &[u8], mask: u32, values: u32) -> Measured
+    ensures { λ r. ⌜ GivesReading r (readingAnswer (now (text .entry)) mask values) ⌝ }
+{
+    match fixture::read(text, mask, values) {
+        Reading::Syndrome(value) => Measured {
+            number: 0,
+            kind: 1,
+            fixed: 0,
+            place: 0,
+            value,
+        },
+        Reading::Weighted(value) => Measured {
+            number: 0,
+            kind: 2,
+            fixed: 0,
+            place: 0,
+            value,
+        },
+        Reading::Constrained(value, fixed) => Measured {
+            number: 0,
+            kind: 3,
+            fixed,
+            place: 0,
+            value,
+        },
+        Reading::Refused { number, place } => Measured {
+            number,
+            kind: 0,
+            fixed: 0,
+            place,
+            value: 0.0,
+        },
+    }
+}
+
+// The readings of the text's circuit sound and under a fault, and sound minus faulty.
+#[no_mangle]
+pub extern "C" fn walsh_pair(text: &[u8], fault: u32, mask: u32, values: u32) -> Comparison
+    ensures { λ r. ⌜ GivesPair r (pairAnswer (now (text .entry)) fault mask values) ⌝ }
+{
+    let c = fixture::compare(text, fault, mask, values);
+    let readings = c.readings;
+    Comparison {
+        number: c.number,
+        place: c.place,
+        sound: readings.sound,
+        faulty: readings.faulty,
+        difference: readings.difference,
     }
 }
 

@@ -1,22 +1,27 @@
--- Document 01's examples marked • as one table. A case says what a call answers and leaves for it, through the definitions that the calls'
+-- Document 01's examples marked • as one table, and readings of their circuits. A case says what a call answers and leaves for it, through the definitions that the calls'
 -- promises cite.
 use Prim.Native.Nat.{ℕ, _^_}
+use mathlib.Core.Bool.{Bool, true, false}
 use mathlib.Core.Path.{_≡_}
 use mathlib.Core.List.{List, [], _∷_}
+use lib.Ieee.{Float, binary64, round}
 use lib.IntN.{ℤ, pos}
 use lib.ListN.{length, replicate, take}
 use Rattle.integer.specs.Tab.{nth}
+use Rattle.fixture.specs.ReadingCall.{readingAnswer, pairAnswer}
 use Rattle.planner.specs.CircuitCall.{circuitAnswer, circuitSpectrum}
 use Rattle.planner.specs.PlanCall.{planned, refused, workDue, planNumbers, planAnswer}
 use Rattle.planner.specs.ReportCall.{bytesDue, reportAnswer, reportLeft}
 use Rattle.planner.specs.declared.Reported.{Reported}
+use Rattle.reading.specs.declared.Reading.{Reading}
+use Rattle.reading.specs.declared.Reading.the-variants.{Syndrome, Weighted, Constrained, Refused}
 use Rattle.walsh.specs.Answers.{minus, leaves, foundOf}
 use Rattle.walsh.specs.Lists.{spectrumAnswer, rowsAnswer, rowsOf}
 use Rattle.walsh.specs.Spectrum.{coefficientOf, spectrumOf}
 use Rattle.walsh.specs.Faults.{stuckOf, stuckAnswer, stuckSpectrumOf, stuckRows, keptInputs, openedAnswer, openedSpectrumOf, openedRows}
 use Rattle.walsh.specs.declared.Found.the-variants.{Coefficient}
 use Rattle.examples.specs.Functions.{figure, productOrInput, selected, gated, gatedOpened}
-use Rattle.examples.specs.Texts.{productOrInputText, gatedText, listing, listingReport, silentText, silentReport, pairText}
+use Rattle.examples.specs.Texts.{productOrInputText, gatedText, listing, listingReport, silentText, silentReport, pairText, halfAndOneText}
 
 pub data Case : Type 0 where
   -- rows and their whole spectrum
@@ -37,6 +42,10 @@ pub data Case : Type 0 where
   noPlan : List ℕ → ℕ → ℕ → Case
   -- a circuit's text and its report
   report : List ℕ → List ℕ → Case
+  -- a circuit's text, a mask of fixed inputs, their values and the reading
+  reads : List ℕ → ℕ → ℕ → Reading → Case
+  -- a circuit's text, the number of a fault, a mask, its values and the readings: sound, faulty, and sound minus faulty
+  compares : List ℕ → ℕ → ℕ → ℕ → Float → Float → Float → Case
 
 -- a result that is lent, of n numbers
 abbrev pub lent : ℕ → List ℤ
@@ -65,6 +74,16 @@ reported text = reportAnswer text bytesDue workDue
 abbrev pub reportBytes : List ℕ → List ℕ
 reportBytes text = take (reported text .bytes) (reportLeft text workDue (replicate bytesDue 0))
 
+-- ±n / 10 ^ places as a binary64
+unfoldable pub decimal : Bool → ℕ → ℕ → Float
+decimal negative n places = round binary64 negative n (10 ^ places)
+
+abbrev pub plus : ℕ → ℕ → Float
+plus n places = decimal false n places
+
+abbrev pub less : ℕ → ℕ → Float
+less n places = decimal true n places
+
 -- what a case says: of the call, and under a fault of the sum over the faulted rows too
 abbrev pub Holds : Case → Type 0
 Holds (whole rows coefficients) = (spectrumLeft rows ≡ coefficients) × (rowsLeft coefficients ≡ rows)
@@ -76,6 +95,9 @@ Holds (total text rows fault z) = nth (circuitLeft text fault rows) 0 ≡ z
 Holds (plan text labels) = planAnswer text workDue ≡ planNumbers (planned labels)
 Holds (noPlan text number place) = planAnswer text workDue ≡ planNumbers (refused number place)
 Holds (report text bytes) = (reported text .number ≡ 0) × (reportBytes text ≡ bytes)
+Holds (reads text mask values r) = readingAnswer text mask values ≡ r
+Holds (compares text fault mask values sound faulty difference) =
+    pairAnswer text fault mask values ≡ record { number = 0; place = 0; readings = record { sound = sound; faulty = faulty; difference = difference } }
 
 abbrev pub Every : (Case → Type 0) → List Case → Type 0
 Every P [] = Unit {0}
@@ -128,4 +150,18 @@ table =
     -- "faults 3 at 1 and 4 at 1: 14. With cap 2: labels 1 and 2."
     ∷ noPlan (pairText "circuit,2,4,2,2,1") 14 0
     ∷ plan (pairText "circuit,2,4,2,2,2") (1 ∷ 2 ∷ [])
+    -- 129 ones in 256 rows are 0.50390625, and 128 are 0.5
+    ∷ reads halfAndOneText 0 0 (Syndrome (plus 50390625 8))
+    ∷ compares halfAndOneText 1 0 0 (plus 50390625 8) (plus 5 1) (plus 390625 8)
+    -- x1 to x7 at 1 leave two rows, both ones: under the fault one
+    ∷ reads halfAndOneText 127 127 (Constrained (plus 1 0) 7)
+    ∷ compares halfAndOneText 1 127 127 (plus 1 0) (plus 5 1) (plus 5 1)
+    -- x1x2 + x3 with x1 at 1, whole and with x3 stuck at 1; every input fixed; a value that is not within its mask
+    ∷ reads productOrInputText 1 1 (Constrained (plus 75 2) 1)
+    ∷ compares productOrInputText 4 1 1 (plus 75 2) (plus 1 0) (less 25 2)
+    ∷ reads productOrInputText 7 4 (Constrained (plus 1 0) 3)
+    ∷ reads productOrInputText 1 2 (Refused 12 0)
+    -- two outputs make a weighted sum; a fixed input goes first
+    ∷ reads (pairText "circuit,2,4,2,2,1") 0 0 (Weighted (plus 1 0))
+    ∷ reads (pairText "circuit,2,4,2,2,1") 1 0 (Constrained (plus 5 1) 1)
     ∷ []

@@ -1,4 +1,4 @@
--- The circuit texts of document 01's examples, a string for each line.
+-- The circuit texts of document 01's examples, a string for each line, and that of the old tool's failure: 129 ones in 256 rows.
 use Prim.Native.Nat.{ℕ}
 use Prim.Native.Char.{code}
 use Prim.Native.String.{String, [] as none, _∷_ as _then_}
@@ -83,4 +83,20 @@ pairText head =
     ∷ "output,6,1"
     ∷ "fault,3,1"
     ∷ "fault,4,1"
+    ∷ [])
+
+-- x8 + x1x2x3x4x5x6x7, on half of the rows and on one more; without the product on half of them
+unfoldable pub halfAndOneText : List ℕ
+halfAndOneText =
+    textOf
+    ("circuit,8,7,1,1,1"
+    ∷ "gate,and,1,2"
+    ∷ "gate,and,3,9"
+    ∷ "gate,and,4,10"
+    ∷ "gate,and,5,11"
+    ∷ "gate,and,6,12"
+    ∷ "gate,and,7,13"
+    ∷ "gate,or,8,14"
+    ∷ "output,15,1"
+    ∷ "fault,14,0"
     ∷ [])

@@ -1,14 +1,16 @@
 //! Times the library's whole-list calls on 2,048 numbers against the
 //! reference's direct ones and, for the spectrum, a plain fast transform; then
-//! its circuit call against rows one by one and that transform, and its plan and
-//! report calls against the same with a choice of labels that is cut short.
+//! its circuit call against rows one by one and that transform, its plan and
+//! report calls against the same with a choice of labels that is cut short, and
+//! its reading and pair calls against a plain mean of those rows.
 
 use reference::circuits::{worst_search, Draft, Sizes};
 use reference::plan::{self, CAP_LIMIT, WORKING_NUMBERS};
 use reference::random::Random;
+use reference::reading::Reading;
 use reference::report::{self, REPORT_ROOM};
 use reference::walsh::ROW_LIMIT;
-use reference::{fast, library, netlist, walsh};
+use reference::{fast, library, netlist, reading, walsh};
 use std::hint::black_box;
 use std::time::Instant;
 
@@ -77,6 +79,7 @@ fn main() {
     let planned = planned_text(&mut random);
     let worst = worst_search().text();
     check_plans(&planned, &worst);
+    check_readings(&text, faults);
 
     let (rows, spectrum, text) = (&rows[..], &spectrum[..], &text[..]);
     let (planned, worst) = (&planned[..], &worst[..]);
@@ -180,6 +183,36 @@ fn main() {
             others: vec![Contender::new("masks, pruned choice", move || {
                 let planned = black_box(planned);
                 let _ = black_box(fast::report(planned, REPORT_ROOM, WORKING_NUMBERS));
+            })],
+        },
+        Race {
+            name: "reading, largest circuit",
+            library: Contender::new("library", move || {
+                black_box(library::reading(
+                    black_box(text),
+                    black_box(0),
+                    black_box(0),
+                ));
+            }),
+            others: vec![Contender::new("rows, mean in binary64", move || {
+                let text = black_box(text);
+                let _ = black_box(fast::reading(text, black_box(0), black_box(0)));
+            })],
+        },
+        Race {
+            name: "pair, largest circuit",
+            library: Contender::new("library", move || {
+                let fault = black_box(faults);
+                black_box(library::pair(
+                    black_box(text),
+                    fault,
+                    black_box(0),
+                    black_box(0),
+                ));
+            }),
+            others: vec![Contender::new("rows, mean in binary64", move || {
+                let (text, fault) = (black_box(text), black_box(faults));
+                let _ = black_box(fast::pair(text, fault, black_box(0), black_box(0)));
             })],
         },
         Race {
@@ -311,4 +344,24 @@ fn check_plans(planned: &[u8], worst: &[u8]) {
 
     assert_eq!(library::plan(worst, working).number, 14);
     assert_eq!(fast::plan(worst, WORKING_NUMBERS), walsh::refuse(14, 0));
+}
+
+/// The same for readings without fixed inputs; four outputs make a weighted sum.
+fn check_readings(text: &[u8], faults: u32) {
+    let found = library::reading(text, 0, 0);
+    let bits = found.value.to_bits();
+    assert_eq!((found.number, found.kind, found.fixed), (0, 2, 0));
+    assert_eq!(reading::reading(text, 0, 0), Reading::WeightedSum { bits });
+    assert_eq!(fast::reading(text, 0, 0).map(f64::to_bits), Ok(bits));
+
+    for fault in 1..=faults {
+        let found = library::pair(text, fault, 0, 0);
+        let readings = [found.sound, found.faulty, found.difference].map(f64::to_bits);
+        assert_eq!(found.number, 0);
+        let due = reading::pair(text, fault, 0, 0).expect("a good circuit");
+        let due = [due.sound, due.faulty, due.difference];
+        assert_eq!(readings, due, "the library's pair differs at fault {fault}");
+        let plain = fast::pair(text, fault, 0, 0).map(|found| found.map(f64::to_bits));
+        assert_eq!(plain, Ok(due), "the plain pair differs at fault {fault}");
+    }
 }

@@ -1,0 +1,5 @@
+pub mod Counts
+pub mod Exactness
+pub mod Fractions
+pub mod Totals
+pub mod Values
