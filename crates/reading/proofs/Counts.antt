@@ -1,15 +1,17 @@
 -- How many rows agree:
 --   count-power    of 2 ^ n rows, where the mask is below 2 ^ n and the values lie within it, 2 ^ k: each fixed input takes one from n
 --   count-all      all of them, where no input is fixed
+--   count-one      one, where every input is
 use mathlib.Core.Bool.{Bool, true, false, cond}
 use mathlib.Core.Logic.{⊎-elim}
 use mathlib.Core.Path.{_≡_, refl, sym, ap, ap₂, _∙_, subst}
-use Prim.Native.Nat.{ℕ, zero, suc, _+_, _^_, _≤_, _<_}
+use Prim.Native.Nat.{ℕ, zero, suc, _+_, _-_, _^_, _≤_, _<_}
 use native.Mathlib.Nat.{add-assoc, add-suc, add-zero, zero-add, lt-of-le-of-lt, one-mul}
 use native.Mathlib.Omega.{arith}
 use lib.Bits.{bitAnd, and-le-r, and-lt, and-zero-r}
-use lib.Count.{ones, ones-cat}
+use lib.Count.{ones, ones-cat, ones-ones}
 use lib.Dec.{eqb}
+use lib.Pow.{pow-pos}
 use borrow.Author.Tests.{eq-eqb, ne-eqb, eqb-true, eqb-false}
 use Rattle.integer.proofs.Halves.{double, which, block}
 use Rattle.reading.specs.Readings.{agrees, countTo, countOf}
@@ -148,3 +150,9 @@ no-input mask values m e =
 pub count-power : (n mask values : ℕ) → mask < 2 ^ n → bitAnd values mask ≡ values → Power n mask (countOf mask values (2 ^ n))
 count-power zero mask values h e = no-input mask values (omega arith) e
 count-power (suc n) mask values h e = input-more n (count-power n) mask values h e
+
+pub count-one : (n values : ℕ) → bitAnd values (2 ^ n - 1) ≡ values → countOf (2 ^ n - 1) values (2 ^ n) ≡ 1
+count-one n values e =
+    let p = count-power n (2 ^ n - 1) values (let h = pow-pos n in omega arith) e in
+    let none : p .free ≡ 0 = omega (arith, p .inputs, ones-ones n) in
+    p .is ∙ ap (λ (k : ℕ). 2 ^ k) none
