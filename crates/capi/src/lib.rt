@@ -47,8 +47,8 @@ pub struct Written {
     pub bytes: usize,
 }
 
-// Number 0 with a reading: kind 1 a plain syndrome, 2 a weighted sum, 3 a constrained value with its number of fixed inputs. All else is 0 with a
-// refusal, and `fixed` where no input is.
+// Number 0 with a reading: kind 1 a plain syndrome, 2 a weighted sum, 3 a constrained value with its number of fixed inputs, which is 0 in the
+// other kinds. With a refusal all but number and place is 0.
 #[repr(C)]
 pub struct Measured {
     pub number: u32,

@@ -156,7 +156,7 @@ table =
     -- x1 to x7 at 1 leave two rows, both ones: under the fault one
     ∷ reads halfAndOneText 127 127 (Constrained (plus 1 0) 7)
     ∷ compares halfAndOneText 1 127 127 (plus 1 0) (plus 5 1) (plus 5 1)
-    -- x1x2 + x3 with x1 at 1, whole and with x3 stuck at 1; every input fixed; a value that is not within its mask
+    -- x1x2 + x3 with x1 at 1, sound and with x3 stuck at 1; every input fixed; a value that is not within its mask
     ∷ reads productOrInputText 1 1 (Constrained (plus 75 2) 1)
     ∷ compares productOrInputText 4 1 1 (plus 75 2) (plus 1 0) (less 25 2)
     ∷ reads productOrInputText 7 4 (Constrained (plus 1 0) 3)
