@@ -42,6 +42,10 @@ unfoldable pub fieldStart : List ℕ → ℕ → ℕ
 fieldStart l zero = zero
 fieldStart l (suc k) = cond (has comma l) (suc (indexOf comma l) + fieldStart (after comma l) k) (length l)
 
+-- a pointer n bytes further: a block and an offset in it
+abbrev pub further : ℕ → ℕ × ℕ → ℕ × ℕ
+further n p = (p .0, n + p .1)
+
 -- how many fields there are: one more than commas
 unfoldable pub fieldCount : List ℕ → ℕ
 fieldCount [] = 1

@@ -7,8 +7,9 @@ pub use writing::put_integer;
 pub use writing::put_line;
 ghost use mathlib.Core.Path.{_≡_};
 ghost use Prim.Native.Nat.{_+_};
+ghost use denote.Ref.{ptr};
 ghost use lib.ListN.{length, drop};
-ghost use Rattle.text.specs.Text.{indexOf, fieldOf, fieldStart, fieldCount, sameBytes, numberOf};
+ghost use Rattle.text.specs.Text.{indexOf, fieldOf, fieldStart, further, fieldCount, sameBytes, numberOf};
 
 // What a field says as a number.
 pub enum Number {
@@ -72,9 +73,11 @@ pub fn locate(text: &[u8], k: usize) -> Span
     }
 }
 
-// Field k, from 0: the part of the text between two commas or ends, and the empty part at the text's end where there is none.
+// Field k, from 0: the part of the text between two commas or ends, and the empty part at the text's end where there is none. The second promise
+// says where it begins, so that no other part with the same bytes will do.
 pub fn field<'a>(text: &'a [u8], k: usize) -> &'a [u8]
     ensures { λ r. ⌜ now r ≡ fieldOf (now (text .entry)) k ⌝ }
+    ensures { λ r. ⌜ ptr r ≡ further (fieldStart (now (text .entry)) k) (ptr (text .entry)) ⌝ }
 {
     let s = locate(text, k);
     let a = s.start;

@@ -1,5 +1,7 @@
 -- The part that `locate` names is the field.
 use borrow.Author.Needs.{needs}
+use mathlib.Core.Path.{ap}
+use Rattle.text.specs.Text.{further}
 use Rattle.text.proofs.Parts.{span-within, span-field}
 use Rattle.text.proofs.field.Statement.{statement}
 use Rattle.text.proofs.field.Tie as tie
@@ -23,7 +25,7 @@ returns : tie.Need-returns
 returns c =
     let a = c .before .before .before .args in
     let s = c .before .locate in
-    span-field (a .text .now) (a .k) (s .result .start) (s .result .end) (s .ensures .0) (s .ensures .1)
+    (span-field (a .text .now) (a .k) (s .result .start) (s .result .end) (s .ensures .0) (s .ensures .1), ap (λ n. further n (a .text .ptr)) (s .ensures .0))
 
 pub field-spec : {M : Type 1} → statement M
 field-spec =

@@ -49,11 +49,11 @@ unfolding gateRefusal isGate gateFits fits readsBelow gateOf
 returns c =
     let read = c .before .before .before .before .before .before .before in
     simp (
-      sym (rw (read .before .before .before .field .ensures) at (read .before .before .kind-of .ensures)),
+      sym (rw (read .before .before .before .field .ensures .0) at (read .before .before .kind-of .ensures)),
       sym (read .before .value-at .ensures .0),
       sym (read .value-at2 .ensures .0),
       sym (c .before .before .before .before .before .is-line .ensures),
-      sym (rw (c .before .before .before .before .field2 .ensures) at (c .before .before .before .is-kind .ensures)),
+      sym (rw (c .before .before .before .before .field2 .ensures .0) at (c .before .before .before .is-kind .ensures)),
       sym (c .before .before .in-range .ensures),
       sym (c .before .second-in-range .ensures),
       sym (c .refusal .ensures),

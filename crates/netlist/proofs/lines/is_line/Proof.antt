@@ -26,7 +26,7 @@ unfolding isLine
 returns-2 c = simp (
   sym (c .before .before .before .before .fields .ensures),
   eq-eqb _ _ (c .before .before .before .if1 .left),
-  sym (c .before .before .field .ensures),
+  sym (c .before .before .field .ensures .0),
   sym (c .before .same .ensures),
   sym (c .numbers .ensures),
 )

@@ -27,7 +27,7 @@ returns : tie.Need-returns Inv-loop μ-loop
 returns c =
     let a = c .before .before .before .before .before .before .args in
     let l = c .before .before .before .before .loop in
-    sym (l .inv ∙ numbers-bad (a .line .now) (a .to) (l .k) (omega arith) (rw (← c .before .before .field .ensures) (fails (c .before .is-number .ensures) (c .if1 .taken))))
+    sym (l .inv ∙ numbers-bad (a .line .now) (a .to) (l .k) (omega arith) (rw (← c .before .before .field .ensures .0) (fails (c .before .is-number .ensures) (c .if1 .taken))))
 
 add-k : tie.Need-add-k Inv-loop μ-loop
 add-k c = search needs
@@ -39,7 +39,7 @@ loop-again : tie.Need-loop-again Inv-loop μ-loop
 loop-again c =
     let a = c .before .before .before .before .before .before .args in
     let l = c .before .before .before .before .loop in
-    l .inv ∙ numbers-step (a .line .now) (a .to) (l .k) (omega arith) (rw (← c .before .before .field .ensures) (passes (c .before .is-number .ensures) (c .if1 .left)))
+    l .inv ∙ numbers-step (a .line .now) (a .to) (l .k) (omega arith) (rw (← c .before .before .field .ensures .0) (passes (c .before .is-number .ensures) (c .if1 .left)))
 
 returns-2 : tie.Need-returns-2 Inv-loop μ-loop
 returns-2 c =

@@ -19,12 +19,12 @@ enum-told c = search needs
 returns : tie.Need-returns
 returns c =
     let a = c .before .before .before .before .before .before .args in
-    value-good (a .line .now) (a .k) (c .before .v .given .0 .0) (rw (← c .before .before .before .before .field .ensures, ← c .before .before .before .decimal .ensures) (c .before .v .given .1))
+    value-good (a .line .now) (a .k) (c .before .v .given .0 .0) (rw (← c .before .before .before .before .field .ensures .0, ← c .before .before .before .decimal .ensures) (c .before .v .given .1))
 
 returns-2 : tie.Need-returns-2
 returns-2 c =
     let a = c .before .before .before .before .before .args in
-    value-bad (a .line .now) (a .k) (rw (← c .before .before .before .field .ensures, ← c .before .before .decimal .ensures) (c .enum-told .given .1))
+    value-bad (a .line .now) (a .k) (rw (← c .before .before .before .field .ensures .0, ← c .before .before .decimal .ensures) (c .enum-told .given .1))
 
 pub value-at-spec : {M : Type 1} → statement M
 value-at-spec =
