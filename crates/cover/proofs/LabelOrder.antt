@@ -1,5 +1,6 @@
 -- The order, and the labels below n:
 --   order-rule        each label below 256 once, by number of ones and then by value: one computed test
+--   order-start       its first twelve labels are those that document 01 lists
 --   order-length, order-rising, order-below, order-distinct    what it says, for proofs
 --   labels-count      there are 2 ^ k labels below 2 ^ k
 --   labels-all, labels-low, labels-below    they are the numbers below n
@@ -30,6 +31,10 @@ in-table label = has label order
 pub order-rule : (eqb (length order) 256 && allBelow in-table 256 && rising order) ≡ true
 unfolding order byOnes withOnes keep count ones allBelow in-table has rising before
 order-rule = refl
+
+pub order-start : take 12 order ≡ 0 ∷ 1 ∷ 2 ∷ 4 ∷ 8 ∷ 16 ∷ 32 ∷ 64 ∷ 128 ∷ 3 ∷ 5 ∷ 6 ∷ []
+unfolding order byOnes withOnes keep count ones
+order-start = refl
 
 rule-parts : (eqb (length order) 256 ≡ true) × (allBelow in-table 256 ≡ true) × (rising order ≡ true)
 rule-parts =

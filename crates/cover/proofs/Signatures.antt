@@ -17,12 +17,13 @@ use mathlib.Core.Option.{none, some}
 use Prim.Native.Nat.{ℕ, zero, suc, _+_, _-_, _<_, _≤_, _^_}
 use native.Mathlib.Omega.{arith}
 use lib.Dec.{eqb}
-use lib.IntN.{ℤ, pos, negsuc, _+ℤ_, _-ℤ_, natAbs, +ℤ-idl, +ℤ-invr, -ℤ-+ℤ-cancel}
+use lib.IntN.{ℤ, _-ℤ_, natAbs, +ℤ-invr}
 use lib.ListN.{length, getD, drop, drop-of-length-le}
 use lib.Seq.{drop-cons}
 use borrow.Author.Tests.{eqb-true, eqb-false, not-true, not-false}
 use Rattle.integer.specs.Tab.{nth}
 use Rattle.integer.proofs.Firsts.{first-at, first-before}
+use Rattle.integer.proofs.Group.{equal-by-size}
 use Rattle.walsh.specs.Spectrum.{coefficientOf}
 use Rattle.cover.specs.Cover.{differ, faultRows, covers, coversFault, coversAll, sameAt, silent, silentAt, firstSilent, signatureOf}
 use Rattle.cover.specs.Order.{count, labelsBelow, rising}
@@ -38,16 +39,11 @@ use Rattle.cover.proofs.Tests.{any-some, some-any, all-each, some-fails
 
 -- Two numbers differ.
 
-is-zero : (z : ℤ) → natAbs z ≡ 0 → z ≡ pos 0
-is-zero (pos n) e = ap pos e
-is-zero (negsuc n) e = absurd (omega arith)
-
 pub differ-ne : (a b : ℤ) → differ a b ≡ true → a ≡ b → ⊥
 differ-ne a b e k = eqb-false (natAbs (a -ℤ b)) 0 (not-true (eqb (natAbs (a -ℤ b)) 0) e) (ap natAbs (ap (λ (z : ℤ). z -ℤ b) k ∙ +ℤ-invr b))
 
 pub differ-eq : (a b : ℤ) → differ a b ≡ false → a ≡ b
-differ-eq a b e =
-    sym (-ℤ-+ℤ-cancel a b) ∙ ap (λ (z : ℤ). z +ℤ b) (is-zero (a -ℤ b) (eqb-true (natAbs (a -ℤ b)) 0 (not-false (eqb (natAbs (a -ℤ b)) 0) e))) ∙ +ℤ-idl b
+differ-eq a b e = equal-by-size a b (eqb-true (natAbs (a -ℤ b)) 0 (not-false (eqb (natAbs (a -ℤ b)) 0) e))
 
 pub ne-differ : (a b : ℤ) → (a ≡ b → ⊥) → differ a b ≡ true
 ne-differ a b n = go (differ a b) refl

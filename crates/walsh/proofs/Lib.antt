@@ -12,4 +12,5 @@ pub mod Screens
 pub mod Spectra
 pub mod Sticking
 pub mod Terms
+pub mod Parity
 pub mod Undoing

@@ -1,10 +1,11 @@
 //! Times the library's whole-list calls on 2,048 numbers against the
 //! reference's direct ones and, for the spectrum, a plain fast transform; then
 //! its circuit call against rows one by one and that transform, its plan and
-//! report calls against the same with a choice of labels that is cut short, and
-//! its reading and pair calls against a plain mean of those rows.
+//! report calls against the same with a choice of labels that is cut short, its
+//! reading and pair calls against a plain mean of those rows, and the program
+//! `signature` on the listing, from its start to its end, against `report`.
 
-use reference::circuits::{worst_search, Draft, Sizes};
+use reference::circuits::{worst_search, Draft, Sizes, LISTING};
 use reference::plan::{self, CAP_LIMIT, WORKING_NUMBERS};
 use reference::random::Random;
 use reference::reading::Reading;
@@ -12,6 +13,9 @@ use reference::report::{self, REPORT_ROOM};
 use reference::walsh::ROW_LIMIT;
 use reference::{fast, library, netlist, reading, walsh};
 use std::hint::black_box;
+use std::io::Write;
+use std::path::{Path, PathBuf};
+use std::process::{Command, Stdio};
 use std::time::Instant;
 
 const LENGTH: usize = 2048;
@@ -55,10 +59,14 @@ impl<'a> Contender<'a> {
     }
 
     fn median(&self) -> f64 {
-        let mut sorted = self.seconds.clone();
-        sorted.sort_by(f64::total_cmp);
-        sorted[sorted.len() / 2]
+        sorted(&self.seconds)[ROUNDS / 2]
     }
+}
+
+fn sorted(numbers: &[f64]) -> Vec<f64> {
+    let mut sorted = numbers.to_vec();
+    sorted.sort_by(f64::total_cmp);
+    sorted
 }
 
 /// The library's call and those it is held against.
@@ -66,6 +74,31 @@ struct Race<'a> {
     name: &'static str,
     library: Contender<'a>,
     others: Vec<Contender<'a>>,
+}
+
+/// What a program writes for a text on standard input.
+fn run(program: &Path, text: &[u8]) -> Vec<u8> {
+    let mut child = Command::new(program)
+        .stdin(Stdio::piped())
+        .stdout(Stdio::piped())
+        .spawn()
+        .unwrap_or_else(|error| panic!("{}: {error}", program.display()));
+    let mut input = child.stdin.take().expect("standard input");
+    input.write_all(text).expect("a text taken");
+    drop(input);
+    let output = child.wait_with_output().expect("its end");
+    assert!(output.status.success(), "{} failed", program.display());
+    output.stdout
+}
+
+/// The program `signature`, and the one beside this that does the same.
+fn programs() -> [PathBuf; 2] {
+    let folder = Path::new(env!("CARGO_MANIFEST_DIR"));
+    let this = std::env::current_exe().expect("where this program stands");
+    [
+        folder.join("../target/bin/signature"),
+        this.with_file_name("report"),
+    ]
 }
 
 fn main() {
@@ -80,6 +113,8 @@ fn main() {
     let worst = worst_search().text();
     check_plans(&planned, &worst);
     check_readings(&text, faults);
+    let [signature, plain_report] = &programs();
+    check_programs(signature, plain_report);
 
     let (rows, spectrum, text) = (&rows[..], &spectrum[..], &text[..]);
     let (planned, worst) = (&planned[..], &worst[..]);
@@ -224,6 +259,15 @@ fn main() {
                 let _ = black_box(fast::plan(black_box(worst), WORKING_NUMBERS));
             })],
         },
+        Race {
+            name: "signature, the listing",
+            library: Contender::new("program", move || {
+                black_box(run(signature, LISTING.as_bytes()));
+            }),
+            others: vec![Contender::new("program in Rust", move || {
+                black_box(run(plain_report, LISTING.as_bytes()));
+            })],
+        },
     ];
 
     // Every round measures each contender once, so noise hits all alike.
@@ -237,24 +281,33 @@ fn main() {
         }
     }
 
-    println!("Microseconds per call, median of {ROUNDS} interleaved rounds.");
+    println!("Microseconds per call, median of {ROUNDS} interleaved rounds; the ratio of the");
+    println!("medians, and between which ratios the middle four fifths of the rounds lie.");
     println!("Buffers were not cleared between calls; the reference makes its own list.");
     println!("The circuit row is {} calls on one text.", faults + 1);
     println!();
     println!(
-        "{:<28}{:>10}  {:<24}{:>10}{:>15}",
-        "call", "library", "against", "time", "library/that"
+        "{:<30}{:>10}  {:<24}{:>10}{:>9}  {}",
+        "call", "library", "against", "time", "ratio", "rounds"
     );
     for race in &races {
         for other in &race.others {
             let (ours, theirs) = (race.library.median(), other.median());
+            let rounds = race.library.seconds.iter().zip(&other.seconds);
+            let ratios = sorted(
+                &rounds
+                    .map(|(ours, theirs)| ours / theirs)
+                    .collect::<Vec<_>>(),
+            );
             println!(
-                "{:<28}{:>10.2}  {:<24}{:>10.2}{:>15.4}",
+                "{:<30}{:>10.2}  {:<24}{:>10.2}{:>9.4}  {:.4} .. {:.4}",
                 race.name,
                 ours * 1e6,
                 other.name,
                 theirs * 1e6,
-                ours / theirs
+                ours / theirs,
+                ratios[ROUNDS / 10],
+                ratios[ROUNDS - 1 - ROUNDS / 10],
             );
         }
     }
@@ -364,4 +417,12 @@ fn check_readings(text: &[u8], faults: u32) {
         let plain = fast::pair(text, fault, 0, 0).map(|found| found.map(f64::to_bits));
         assert_eq!(plain, Ok(due), "the plain pair differs at fault {fault}");
     }
+}
+
+/// The same for the two programs.
+fn check_programs(signature: &Path, plain_report: &Path) {
+    let text = LISTING.as_bytes();
+    let due = report::report(text, REPORT_ROOM, WORKING_NUMBERS).expect("a report");
+    assert_eq!(run(signature, text), due, "the program's report differs");
+    assert_eq!(run(plain_report, text), due, "the reference's differs");
 }
