@@ -81,7 +81,7 @@ fn plan_by(
 }
 
 // The same with rows of its own; one mask a label is all that it needs of the working numbers.
-pub(crate) fn plan_circuit(c: Circuit, masks: &mut [u32]) -> Planned
+pub fn plan_circuit(c: Circuit, masks: &mut [u32]) -> Planned
     requires { ⌜ Sized c × WellFormed (netlistOf c) × (length (now masks) ≡ 2 ^ c .head .inputs) ⌝ }
     ensures { λ r. ⌜ r ≡ planNumbers (verdictOf (netlistOf c)) ⌝ }
 {
