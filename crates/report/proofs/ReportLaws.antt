@@ -8,7 +8,7 @@
 --   text-refuses, text-serves, short-out, short-work, report-served    the call, by the parser's answer and the lent buffers
 use mathlib.Core.Path.{_≡_, refl, sym, ap, _∙_, subst}
 use mathlib.Core.Bool.{Bool, true, false, cond, _||_}
-use mathlib.Core.List.{List, [], _∷_, _++_, append-assoc}
+use mathlib.Core.List.{List, _++_, append-assoc}
 use mathlib.Core.Logic.{⊎-elim}
 use mathlib.Core.Option.{Option, none, some}
 use Prim.Native.Nat.{ℕ, suc, _+_, _*_, _^_, _<_, _≤_}
@@ -17,7 +17,6 @@ use lib.Dec.{ltb, lit≤}
 use lib.ListN.{length, take, getD, length-append}
 use borrow.Author.Tests.{lt-ltb, le-ltb, ltb-true, ltb-false}
 use Rattle.cover.specs.Cover.{signatureOf}
-use Rattle.cover.specs.Sets.{fourOf}
 use Rattle.cover.specs.Steps.{Below}
 use Rattle.cover.proofs.LabelOrder.{at-mem}
 use Rattle.cover.proofs.Signatures.{signature-found}
@@ -36,7 +35,7 @@ use Rattle.report.specs.ReportCall.{planLine, refusedLine, labelLine, fa
 use Rattle.planner.specs.declared.Planned.{Planned}
 use Rattle.report.specs.declared.Reported.{Reported}
 use Rattle.planner.proofs.FaultRows.{fault-count}
-use Rattle.planner.proofs.PlanLaws.{kept}
+use Rattle.planner.proofs.PlanLaws.{kept, kept-four}
 use Rattle.report.proofs.ReportLines.{refused-length, plan-length, label-line-length, fault-line-length}
 
 module _ (n : Netlist) (right : WellFormed n) (labels : List ℕ) (low : Below (2 ^ n .inputs) labels) where
@@ -143,19 +142,10 @@ module _ (n : Netlist) (p : Planned) where
   refused-by (refused number place) f e h = rw e (f .1, f .2, refl)
   refused-by (planned labels) f e h = absurd (h (ap (λ (x : Planned). x .number) e))
 
-  -- the labels of a plan, at the front of four
-  front : (labels : List ℕ) → length labels ≤ 4 → take (length labels) (fourOf labels) ≡ labels
-  front [] h = refl
-  front (a ∷ []) h = refl
-  front (a ∷ b ∷ []) h = refl
-  front (a ∷ b ∷ c ∷ []) h = refl
-  front (a ∷ b ∷ c ∷ d ∷ []) h = refl
-  front (a ∷ b ∷ c ∷ d ∷ e ∷ l) h = absurd (omega arith)
-
   pub planned-by : (v : Verdict) → Fitting n v → p ≡ planNumbers v → p .number ≡ 0
       → (p .size ≤ 4) × Below (2 ^ n .inputs) (take (p .size) (p .labels)) × (planLines (soundRows n) (faultedRows n) (take (p .size) (p .labels)) ≡ verdictLines n v)
   planned-by (refused number place) f e h = let k = ap (λ (x : Planned). x .number) e in absurd (omega (arith, f .0, k, h))
-  planned-by (planned labels) f e h = rw e (rw (front labels (f .1)) (f .1, f .0, refl))
+  planned-by (planned labels) f e h = rw e (rw (kept-four labels (f .1)) (f .1, f .0, refl))
 
 -- every report fits
 pub report-fits : (text : List ℕ) → length (reportOf text) ≤ 715

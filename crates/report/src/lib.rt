@@ -178,8 +178,7 @@ fn text_lines(text: &[u8], out: &mut [u8], work: &mut [u32]) -> usize
         return refused_line(out, number, p.place);
     }
     let c = p.circuit;
-    let due: usize = 1 << c.head.inputs;
-    let plan = planner::plan_circuit(c, &mut work[..due]);
+    let plan = planner::plan_circuit(c, work);
     circuit_lines(c, plan, out)
 }
 
