@@ -3,10 +3,10 @@ use mathlib.Core.Path.{_≡_}
 use Prim.Native.Nat.{ℕ}
 use Rattle.fixture.specs.declared.Compared.{Compared}
 use Rattle.planner.specs.declared.Planned.{Planned}
-use Rattle.planner.specs.declared.Reported.{Reported}
 use Rattle.reading.specs.Readings.{numberOf as readingNumber, placeOf as readingPlace, readingOf, fixedOf}
 use Rattle.reading.specs.declared.Reading.{Reading}
 use Rattle.reading.specs.declared.Reading.the-variants.{Syndrome, Weighted, Constrained, Refused}
+use Rattle.report.specs.declared.Reported.{Reported}
 use Rattle.walsh.specs.Answers.{numberOf, placeOf, foundNumber, foundPlace, foundValue}
 use Rattle.walsh.specs.declared.Answer.{Answer}
 use Rattle.walsh.specs.declared.Found.{Found}

@@ -8,7 +8,7 @@ ghost use lib.ListN.{length};
 ghost use Rattle.fixture.specs.ReadingCall.{readingAnswer, pairAnswer};
 ghost use Rattle.planner.specs.CircuitCall.{circuitAnswer, circuitSpectrum};
 ghost use Rattle.planner.specs.PlanCall.{planVerdict, planAnswer, WorkKept};
-ghost use Rattle.planner.specs.ReportCall.{reportAnswer, reportLeft, reportVerdict};
+ghost use Rattle.report.specs.ReportCall.{reportAnswer, reportLeft, reportVerdict};
 ghost use Rattle.text.specs.Text.{fieldOf, fieldStart};
 ghost use Rattle.walsh.specs.Answers.{leaves, foundOf};
 ghost use Rattle.walsh.specs.Faults.{stuckOf, stuckAnswer, stuckSpectrumOf, openedAnswer, openedSpectrumOf};
@@ -179,7 +179,7 @@ pub extern "C" fn walsh_report(text: &[u8], out: &mut [u8], work: &mut [u32]) ->
     ensures { λ _. ⌜ now (out .exit) ≡ reportLeft (now (text .entry)) (length (now (work .entry))) (now (out .entry)) ⌝ }
     ensures { λ _. ⌜ WorkKept (reportVerdict (now (text .entry)) (length (now (out .entry))) (length (now (work .entry)))) (now (work .entry)) (now (work .exit)) ⌝ }
 {
-    let r = planner::report(text, out, work);
+    let r = report::report(text, out, work);
     Written {
         number: r.number,
         bytes: r.bytes,

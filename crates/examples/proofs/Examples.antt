@@ -22,8 +22,8 @@ use Rattle.cover.specs.Sets.{setsOf, firstOf, planFrom, planOf}
 use Rattle.cover.specs.Cover.{any, allBelow, covers, coversFault, coversAll, sameAt, silent, silentAt, firstSilent, signatureOf}
 use Rattle.fixture.specs.ReadingCall.{fixesInputs, someAboveOne, isWeighted, faultValue, readingAnswer, unread, pairNumbers, namesFault, pairAnswer}
 use Rattle.planner.specs.PlanCall.{silentFirst, verdictOf, planVerdict, planAnswer}
-use Rattle.planner.specs.ReportCall.{planLine, refusedLine, labelLine, coversAt, coveringLabel, faultLine, planLines, reportOf, short, reportAnswer, reportLeft}
 use Rattle.planner.specs.CircuitCall.{roomAnswer, faultAnswer, circuitAnswer, faultSpectrum, circuitSpectrum}
+use Rattle.report.specs.ReportCall.{planLine, refusedLine, labelLine, coversAt, coveringLabel, faultLine, planLines, reportOf, short, reportAnswer, reportLeft}
 use Rattle.examples.specs.Functions.{isOneOf, figure, productOrInput, selected, gated, gatedOpened}
 use Rattle.examples.specs.Texts.{bytesOf, textOf, productOrInputText, gatedText, listing, listingReport, silentText, silentReport, pairText, halfAndOneText}
 use Rattle.examples.specs.Table.{decimal, Holds, Every, table}

@@ -11,10 +11,10 @@ use Rattle.integer.specs.Tab.{nth}
 use Rattle.fixture.specs.ReadingCall.{readingAnswer, pairAnswer}
 use Rattle.planner.specs.CircuitCall.{circuitAnswer, circuitSpectrum}
 use Rattle.planner.specs.PlanCall.{planned, refused, workDue, planNumbers, planAnswer}
-use Rattle.planner.specs.ReportCall.{bytesDue, reportAnswer, reportLeft}
-use Rattle.planner.specs.declared.Reported.{Reported}
 use Rattle.reading.specs.declared.Reading.{Reading}
 use Rattle.reading.specs.declared.Reading.the-variants.{Syndrome, Weighted, Constrained, Refused}
+use Rattle.report.specs.ReportCall.{bytesDue, reportAnswer, reportLeft}
+use Rattle.report.specs.declared.Reported.{Reported}
 use Rattle.walsh.specs.Answers.{minus, leaves, foundOf}
 use Rattle.walsh.specs.Lists.{spectrumAnswer, rowsAnswer, rowsOf}
 use Rattle.walsh.specs.Spectrum.{coefficientOf, spectrumOf}

@@ -2,7 +2,7 @@
 --   demand-three    for every accepted text and enough working numbers, the answer of the plan call is right
 use mathlib.Core.Path.{_≡_, refl, sym, ap, _∙_, subst}
 use mathlib.Core.Bool.{Bool, true, false, cond}
-use mathlib.Core.List.{List, [], _∷_}
+use mathlib.Core.List.{List, []}
 use mathlib.Core.Logic.{inl, inr}
 use mathlib.Core.Option.{Option, none, some}
 use Prim.Native.Nat.{ℕ, zero, suc, _<_, _≤_, _^_}
@@ -27,17 +27,9 @@ use Rattle.simulation.specs.Rows.{rowValue, rowsOf}
 use Rattle.simulation.proofs.RowBounds.{length-rows}
 use Rattle.walsh.specs.Spectrum.{coefficientOf}
 use Rattle.planner.specs.PlanCall.{Verdict, refused, planned, soundRows, faultedRows, searched, silentFirst, verdictOf, workDue, planIn, planVerdict, planNumbers, planAnswer}
-use Rattle.planner.specs.Demand.{Named, Shows, Possible, Silent, SomeSilent, returned, Right}
+use Rattle.planner.specs.Demand.{Named, Shows, Possible, Silent, SomeSilent, Right}
 use Rattle.planner.proofs.FaultRows.{fault-rows, fault-count}
-
--- a list of at most four, as it is returned
-kept-four : (xs : List ℕ) → length xs ≤ 4 → take (length xs) (fourOf xs) ≡ xs
-kept-four [] h = refl
-kept-four (a ∷ []) h = refl
-kept-four (a ∷ b ∷ []) h = refl
-kept-four (a ∷ b ∷ c ∷ []) h = refl
-kept-four (a ∷ b ∷ c ∷ d ∷ []) h = refl
-kept-four (a ∷ b ∷ c ∷ d ∷ e ∷ xs) h = absurd (omega arith)
+use Rattle.planner.proofs.PlanLaws.{kept-four}
 
 -- places past the size hold 0
 rest-none : (xs : List ℕ) (i : ℕ) → length xs ≤ i → getD (fourOf xs) i 0 ≡ 0

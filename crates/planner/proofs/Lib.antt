@@ -2,5 +2,3 @@ pub mod CircuitLaws
 pub mod Demanded
 pub mod FaultRows
 pub mod PlanLaws
-pub mod ReportLaws
-pub mod ReportLines

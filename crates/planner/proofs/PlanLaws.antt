@@ -5,12 +5,13 @@
 --   all-loud           where the first silent fault is not below the number of faults, it is that number
 --   Ready, may-find    no fault is silent and all are marked, and what the search requires
 --   plan-silent, plan-none, plan-found     the verdict's numbers: 13, 14, the labels
+--   kept-four          the labels of a plan, at the front of four
 --   verdict-text, verdict-room, verdict-served    the call's verdict, by the parser's answer
 --   front-labels       the front of the labels that the order gives
 --   kept, front-used   the working numbers, untouched or with their front used
 use mathlib.Core.Path.{_≡_, refl, sym, ap, ap₂, _∙_, subst}
 use mathlib.Core.Bool.{Bool, true, false, cond}
-use mathlib.Core.List.{List, _++_}
+use mathlib.Core.List.{List, [], _∷_, _++_}
 use mathlib.Core.Option.{Option, none, some}
 use Prim.Native.Nat.{ℕ, suc, _+_, _-_, _<_, _≤_, _^_}
 use native.Mathlib.Numerals.{add-one}
@@ -24,7 +25,7 @@ use borrow.Author.Count.{below-more}
 use borrow.Author.Tests.{lt-ltb, le-ltb}
 use Rattle.cover.specs.Cover.{faultRows, silent, silentAt, firstSilent, signatureOf}
 use Rattle.cover.specs.Order.{labelsBelow}
-use Rattle.cover.specs.Sets.{planOf, upTo}
+use Rattle.cover.specs.Sets.{planOf, upTo, fourOf}
 use Rattle.cover.specs.Steps.{Below, clears, marked, masksOf, setOf, setAt}
 use Rattle.cover.specs.declared.LabelSet.{LabelSet}
 use Rattle.cover.proofs.LabelOrder.{labels-count, labels-below}
@@ -180,6 +181,15 @@ module _ {n : Netlist} {q : ℕ} {labels masks : List ℕ} (r : Ready n q labels
     pub plan-found : (s .size ≡ 0 → ⊥) → numbersOf s ≡ planNumbers (verdictOf n)
     plan-found h = sym (ap planNumbers as-searched ∙ numbers-some (signature n) s as-signature h)
 
+-- a list of at most four, as it is returned
+pub kept-four : (xs : List ℕ) → length xs ≤ 4 → take (length xs) (fourOf xs) ≡ xs
+kept-four [] h = refl
+kept-four (a ∷ []) h = refl
+kept-four (a ∷ b ∷ []) h = refl
+kept-four (a ∷ b ∷ c ∷ []) h = refl
+kept-four (a ∷ b ∷ c ∷ d ∷ []) h = refl
+kept-four (a ∷ b ∷ c ∷ d ∷ e ∷ xs) h = absurd (omega arith)
+
 -- by the parser's answer p
 module _ (text : List ℕ) (work : ℕ) (p : Parsed) (means : meaning p ≡ parseOf text) where
   pub verdict-text : (p .number ≡ 0 → ⊥) → planVerdict text work ≡ refused (p .number) (p .place)
@@ -217,13 +227,13 @@ module _ (c : Circuit) (size : Sized c) where
       let all : length (labelsBelow (due c size)) ≡ (due c size) = ap (λ (n : ℕ). length (labelsBelow n)) (due-is c size) ∙ labels-count (c .head .inputs) (size .inputs) ∙ sym (due-is c size) in
       ap (λ (n : ℕ). take n labels) (sym all) ∙ e ∙ ap labelsBelow (due-is c size)
 
-  pub front-used : (front before : List ℕ) {v : Verdict} → v ≡ verdictOf (netlistOf c) → length front ≡ (due c size) → WorkKept v before (front ++ drop (due c size) before)
-  front-used front before e long = record {
+  pub front-used : (front before : List ℕ) → length front ≡ (due c size) → WorkKept (verdictOf (netlistOf c)) before (front ++ drop (due c size) before)
+  front-used front before long = record {
     later-kept =
         let few = due-few c size in
         let split : workDue ≡ length front + (workDue - (due c size)) = omega arith in
         let join : (due c size) + (workDue - (due c size)) ≡ workDue = omega arith in
         ap (λ (k : ℕ). drop k (front ++ drop (due c size) before)) split ∙ drop-append-add front (drop (due c size) before) (workDue - (due c size))
         ∙ drop-drop (workDue - (due c size)) (due c size) before ∙ ap (λ (k : ℕ). drop k before) join;
-    all-kept = λ none. clash (sym (verdict-uses (netlistOf c)) ∙ ap mayUse (sym e) ∙ none);
+    all-kept = λ none. clash (sym (verdict-uses (netlistOf c)) ∙ none);
   }

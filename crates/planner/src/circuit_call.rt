@@ -24,7 +24,7 @@ fn spectrum_by(c: Circuit, f: Fault, rows: &mut [i32], out: &mut [i32]) -> Answe
 }
 
 // The same with rows of its own.
-pub(crate) fn fault_spectrum(c: Circuit, f: Fault, out: &mut [i32]) -> Answer
+pub fn fault_spectrum(c: Circuit, f: Fault, out: &mut [i32]) -> Answer
     requires { ⌜ Sized c × (1 ≤ c .head .inputs) ⌝ }
     requires { ⌜ Within 1000 (rowsOf (netlistOf c) f) ⌝ }
     ensures { λ r. ⌜ r ≡ roomAnswer (c .head .inputs) (length (now (out .entry))) ⌝ }

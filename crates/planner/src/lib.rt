@@ -1,11 +1,13 @@
-// The calls of document 01 on a circuit text.
+// The calls of document 01 on a circuit text that give a spectrum or a plan; the report is the crate `report`'s.
 mod circuit_call;
 mod plan_call;
-mod report_call;
 
 pub use circuit_call::circuit_spectrum;
 pub use plan_call::plan;
-pub use report_call::report;
+
+// Leaves for crates of this repository, with a `requires`: no calls of the papers.
+pub use circuit_call::fault_spectrum;
+pub use plan_call::plan_circuit;
 
 // Number 0 with a plan of `size` labels; label places past the size hold 0. With a refusal size and labels are 0.
 pub struct Planned {
@@ -13,10 +15,4 @@ pub struct Planned {
     pub place: usize,
     pub size: usize,
     pub labels: [u32; 4],
-}
-
-// Number 0 and how many bytes the report has, or number 8.
-pub struct Reported {
-    pub number: u32,
-    pub bytes: usize,
 }

@@ -2,13 +2,13 @@
 use crate::Planned;
 use netlist::Circuit;
 ghost use mathlib.Core.Path.{_≡_};
-ghost use Prim.Native.Nat.{_^_};
+ghost use Prim.Native.Nat.{_^_, _≤_};
 ghost use lib.ListN.{length};
 ghost use Rattle.cover.specs.Order.{labelsBelow};
 ghost use Rattle.cover.specs.Steps.{masksOf};
 ghost use Rattle.netlist.specs.Circuits.{netlistOf, Sized};
 ghost use Rattle.netlist.specs.WellFormed.{WellFormed};
-ghost use Rattle.planner.specs.PlanCall.{refused, soundRows, faultedRows, silentFirst, verdictOf, planNumbers, planVerdict, planAnswer, WorkKept};
+ghost use Rattle.planner.specs.PlanCall.{refused, soundRows, faultedRows, silentFirst, verdictOf, workDue, planNumbers, planVerdict, planAnswer, WorkKept};
 
 fn refuse(number: u32, place: usize) -> Planned
     ensures { λ r. ⌜ r ≡ planNumbers (refused number place) ⌝ }
@@ -80,10 +80,11 @@ fn plan_by(
     }
 }
 
-// The same with rows of its own; one mask a label is all that it needs of the working numbers.
-pub(crate) fn plan_circuit(c: Circuit, masks: &mut [u32]) -> Planned
-    requires { ⌜ Sized c × WellFormed (netlistOf c) × (length (now masks) ≡ 2 ^ c .head .inputs) ⌝ }
+// The same with rows of its own; one mask a label is all that it uses of the working numbers.
+pub fn plan_circuit(c: Circuit, work: &mut [u32]) -> Planned
+    requires { ⌜ Sized c × WellFormed (netlistOf c) × (workDue ≤ length (now work)) ⌝ }
     ensures { λ r. ⌜ r ≡ planNumbers (verdictOf (netlistOf c)) ⌝ }
+    ensures { λ _. ⌜ WorkKept (verdictOf (netlistOf c)) (now (work .entry)) (now (work .exit)) ⌝ }
 {
     let due: usize = 1 << c.head.inputs;
     let labels = cover::labels_below(due);
@@ -94,7 +95,7 @@ pub(crate) fn plan_circuit(c: Circuit, masks: &mut [u32]) -> Planned
         &mut sound[..due],
         &mut faulted[..due],
         &labels[..due],
-        masks,
+        &mut work[..due],
     )
 }
 
@@ -111,7 +112,5 @@ pub fn plan(text: &[u8], work: &mut [u32]) -> Planned
     if work.len() < 4608 {
         return refuse(8, 0);
     }
-    let c = p.circuit;
-    let due: usize = 1 << c.head.inputs;
-    plan_circuit(c, &mut work[..due])
+    plan_circuit(p.circuit, work)
 }

@@ -5,7 +5,7 @@ use libc::STDOUT_FILENO;
 // Reads one byte more than a text may have, so that a longer input is refused by its length and never cut to a text that passes.
 fn answer(text: &mut [u8], out: &mut [u8], work: &mut [u32]) -> bool {
     let length = io::read_full(STDIN_FILENO, text);
-    let report = planner::report(&text[..length], out, work);
+    let report = report::report(&text[..length], out, work);
     let bytes = report.bytes;
     io::write_all(STDOUT_FILENO, &out[..bytes])
 }

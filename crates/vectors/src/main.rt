@@ -29,7 +29,7 @@ fn length_at(head: &[u8; 12], at: usize) -> usize
 
 // Whether the report on the text is what is due.
 fn reports(text: &[u8], due: &[u8], out: &mut [u8], work: &mut [u32]) -> bool {
-    let r = planner::report(text, out, work);
+    let r = report::report(text, out, work);
     let bytes = r.bytes;
     if r.number != 0 {
         return false;

@@ -1,7 +1,7 @@
 -- The call's answer, number by number.
 use borrow.Author.Needs.{needs}
 use mathlib.Core.Path.{ap}
-use Rattle.planner.specs.declared.Reported.{Reported}
+use Rattle.report.specs.declared.Reported.{Reported}
 use Rattle.capi.proofs.walsh_report.Statement.{statement}
 use Rattle.capi.proofs.walsh_report.Tie as tie
 

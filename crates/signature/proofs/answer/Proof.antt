@@ -3,7 +3,7 @@ use borrow.Author.Needs.{needs}
 use mathlib.Core.Path.{sym}
 use native.Mathlib.Omega.{arith}
 use lib.Seq.{length-take-le}
-use Rattle.planner.proofs.ReportLaws.{report-within}
+use Rattle.report.proofs.ReportLaws.{report-within}
 use Rattle.signature.proofs.answer.Statement.{statement}
 use Rattle.signature.proofs.answer.Tie as tie
 

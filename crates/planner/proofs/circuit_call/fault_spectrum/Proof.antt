@@ -1,6 +1,5 @@
 -- 2^N rows fit the front of the local array.
 use borrow.Author.Needs.{needs}
-use Prim.Native.Nat.{_^_}
 use mathlib.Core.Path.{sym, _∙_}
 use lib.Seq.{length-take-le}
 use Rattle.simulation.proofs.Counts.{due-is, due-few}

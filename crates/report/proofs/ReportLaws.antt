@@ -1,0 +1,222 @@
+-- The report:
+--   report-fits        the report on any text has at most 715 bytes
+--   report-within      what was written is within the lent bytes
+--   plan-lines-length, labels-room, faults-room, plan-written    all lines of a plan, and writing them one part behind the other
+--   verdict-fitting    the numbers of a verdict are small, and its labels are at most 4 labels of the circuit
+--   refused-by, planned-by    a verdict's lines, by its numbers
+--   refusal-small      the numbers of a text's refusal
+--   text-refuses, text-serves, short-out, short-work, report-served    the call, by the parser's answer and the lent buffers
+use mathlib.Core.Path.{_≡_, refl, sym, ap, _∙_, subst}
+use mathlib.Core.Bool.{Bool, true, false, cond, _||_}
+use mathlib.Core.List.{List, _++_, append-assoc}
+use mathlib.Core.Logic.{⊎-elim}
+use mathlib.Core.Option.{Option, none, some}
+use Prim.Native.Nat.{ℕ, suc, _+_, _*_, _^_, _<_, _≤_}
+use native.Mathlib.Omega.{arith}
+use lib.Dec.{ltb, lit≤}
+use lib.ListN.{length, take, getD, length-append}
+use borrow.Author.Tests.{lt-ltb, le-ltb, ltb-true, ltb-false}
+use Rattle.cover.specs.Cover.{signatureOf}
+use Rattle.cover.specs.Steps.{Below}
+use Rattle.cover.proofs.LabelOrder.{at-mem}
+use Rattle.cover.proofs.Signatures.{signature-found}
+use Rattle.netlist.specs.Circuits.{Netlist, netlistOf, sound as unfaulted}
+use Rattle.netlist.specs.Parsing.{Parse, accepted, rejected, parseOf, meaning}
+use Rattle.netlist.specs.WellFormed.{WellFormed}
+use Rattle.netlist.specs.declared.Parsed.{Parsed}
+use Rattle.netlist.proofs.Acceptance.{well-formed, accepted-as}
+use Rattle.netlist.proofs.Assembling.{meant}
+use Rattle.netlist.proofs.Refusals.{text-refused}
+use Rattle.simulation.proofs.RowBounds.{length-rows}
+use Rattle.text.specs.Writing.{placed, gather}
+use Rattle.text.proofs.Writings.{length-placed, placed-more, placed-front, gather-length}
+use Rattle.planner.specs.PlanCall.{Verdict, refused, planned, soundRows, faultedRows, searched, silentFirst, verdictOf, workDue, planVerdict, planNumbers, WorkKept}
+use Rattle.report.specs.ReportCall.{planLine, refusedLine, labelLine, faultLine, planLines, verdictLines, reportIn, reportOf, bytesDue, short, reportAnswer, reportLeft, reportVerdict}
+use Rattle.planner.specs.declared.Planned.{Planned}
+use Rattle.report.specs.declared.Reported.{Reported}
+use Rattle.planner.proofs.FaultRows.{fault-count}
+use Rattle.planner.proofs.PlanLaws.{kept, kept-four}
+use Rattle.report.proofs.ReportLines.{refused-length, plan-length, label-line-length, fault-line-length}
+
+module _ (n : Netlist) (right : WellFormed n) (labels : List ℕ) (low : Below (2 ^ n .inputs) labels) where
+  label-part : length (gather (labelLine (soundRows n) labels) (length labels)) ≤ length labels * 17
+  label-part = gather-length 17 (labelLine (soundRows n) labels) (length labels) (label-line-length n right labels low)
+
+  fault-part : length (gather (faultLine (soundRows n) (faultedRows n) labels) (length (faultedRows n))) ≤ length (faultedRows n) * 20
+  fault-part =
+      let q = fault-count n in
+      gather-length 20 (faultLine (soundRows n) (faultedRows n) labels) (length (faultedRows n)) (λ f h. fault-line-length n right labels low f (omega (arith, h, q)))
+
+  module _ (small : length labels ≤ 4) where
+    abbrev A : List ℕ
+    A = planLine (length labels)
+
+    abbrev B : List ℕ
+    B = gather (labelLine (soundRows n) labels) (length labels)
+
+    abbrev C : List ℕ
+    C = gather (faultLine (soundRows n) (faultedRows n) labels) (length (faultedRows n))
+
+    long : length (planLines (soundRows n) (faultedRows n) labels) ≡ length A + length B + length C
+    unfolding planLines
+    long = omega (arith, length-append A (B ++ C), length-append B C)
+
+    pub plan-lines-length : length (planLines (soundRows n) (faultedRows n) labels) ≤ 715
+    plan-lines-length =
+        let a = plan-length (length labels) (omega (arith, small)) in
+        let q = fault-count n in
+        omega (arith, long, a, label-part, fault-part, small, q, right .faults-high)
+
+    -- written one behind the other
+    module _ (out : List ℕ) (wide : 1024 ≤ length out) {at : ℕ} {one : List ℕ} (first : (at ≡ 0 + length A) × (one ≡ placed 0 A out)) where
+      head : length A ≤ 7
+      head = plan-length (length labels) (omega (arith, small))
+
+      pub labels-room : at + 17 * length labels ≤ length one
+      labels-room =
+          let k = ap length (first .1) ∙ length-placed 0 A out (omega (arith, head, wide)) in
+          omega (arith, head, k, first .0, small, wide)
+
+      module _ {behind : ℕ} {two : List ℕ} (second : (behind ≡ at + length B) × (two ≡ placed at B one)) where
+        pair : two ≡ placed 0 (A ++ B) out
+        pair = second .1 ∙ placed-more 0 A B out one at (first .1) (first .0) (omega (arith, head, label-part, small, wide))
+
+        pair-end : behind ≡ 0 + length (A ++ B)
+        pair-end = omega (arith, first .0, second .0, length-append A B)
+
+        pair-length : length (A ++ B) ≤ 75
+        pair-length = omega (arith, head, label-part, small, length-append A B)
+
+        pub faults-room : behind + 640 ≤ length two
+        faults-room =
+            let k = ap length pair ∙ length-placed 0 (A ++ B) out (omega (arith, pair-length, wide)) in
+            omega (arith, pair-length, pair-end, k, wide)
+
+        pub plan-written : {end : ℕ} {three : List ℕ} → (end ≡ behind + length C) × (three ≡ placed behind C two)
+            → (end ≡ length (planLines (soundRows n) (faultedRows n) labels)) × (three ≡ placed 0 (planLines (soundRows n) (faultedRows n) labels) out)
+        unfolding planLines
+        plan-written third =
+            let q = fault-count n in (
+              omega (arith, third .0, pair-end, length-append A B, long),
+              third .1
+                  ∙ placed-more 0 (A ++ B) C out _ _ pair pair-end (omega (arith, pair-length, fault-part, q, right .faults-high, wide))
+                  ∙ ap (λ (l : List ℕ). placed 0 l out) (append-assoc A B C),
+            )
+
+-- ---- verdicts
+
+-- a verdict's numbers are small, and its labels those of the circuit
+abbrev pub Fitting : Netlist → Verdict → Type 0
+Fitting n (refused number place) = (1 ≤ number) × (number < 100) × (place < 1000)
+Fitting n (planned labels) = Below (2 ^ n .inputs) labels × (length labels ≤ 4)
+
+searched-fitting : (n : Netlist) → WellFormed n → (o : Option (List ℕ)) → signatureOf (soundRows n) (faultedRows n) (n .cap) ≡ o → Fitting n (searched o)
+searched-fitting n right none e = (lit≤ tt, lit≤ tt, lit≤ tt)
+searched-fitting n right (some labels) e =
+    let r = signature-found (soundRows n) (faultedRows n) (n .cap) labels e in (
+      λ i h. subst (λ (k : ℕ). getD labels i 0 < k) (length-rows n unfaulted) (r .0 .labels (getD labels i 0) (at-mem labels i h)),
+      omega (arith, r .2, right .cap-high),
+    )
+
+pub verdict-fitting : (n : Netlist) → WellFormed n → Fitting n (verdictOf n)
+unfolding verdictOf
+verdict-fitting n right = go (ltb (silentFirst n) (length (n .faults))) refl
+  where
+    go : (t : Bool) → ltb (silentFirst n) (length (n .faults)) ≡ t
+        → Fitting n (cond t (refused 13 (suc (silentFirst n))) (searched (signatureOf (soundRows n) (faultedRows n) (n .cap))))
+    go true e = (lit≤ tt, lit≤ tt, omega (arith, ltb-true (silentFirst n) (length (n .faults)) e, right .faults-high))
+    go false e = searched-fitting n right (signatureOf (soundRows n) (faultedRows n) (n .cap)) refl
+
+verdict-length : (n : Netlist) (right : WellFormed n) (v : Verdict) → Fitting n v → length (verdictLines n v) ≤ 715
+verdict-length n right (refused number place) f = let l = refused-length number place (f .1) (f .2) in omega (arith, l)
+verdict-length n right (planned labels) f = plan-lines-length n right labels (f .0) (f .1)
+
+pub refusal-small : (text : List ℕ) (number place : ℕ) → parseOf text ≡ rejected number place → (1 ≤ number) × (number < 100) × (place < 1000)
+refusal-small text number place e =
+    ⊎-elim (λ one. (omega (arith, one .0), omega (arith, one .0), omega (arith, one .1)))
+    (λ line. (omega (arith, line .number-low), omega (arith, line .number-high), omega (arith, line .place-high))) (text-refused text number place e)
+
+-- the numbers of a verdict, and what its lines are
+module _ (n : Netlist) (p : Planned) where
+  pub refused-by : (v : Verdict) → Fitting n v → p ≡ planNumbers v → (p .number ≡ 0 → ⊥) → (p .number < 100) × (p .place < 1000) × (refusedLine (p .number) (p .place) ≡ verdictLines n v)
+  refused-by (refused number place) f e h = rw e (f .1, f .2, refl)
+  refused-by (planned labels) f e h = absurd (h (ap (λ (x : Planned). x .number) e))
+
+  pub planned-by : (v : Verdict) → Fitting n v → p ≡ planNumbers v → p .number ≡ 0
+      → (p .size ≤ 4) × Below (2 ^ n .inputs) (take (p .size) (p .labels)) × (planLines (soundRows n) (faultedRows n) (take (p .size) (p .labels)) ≡ verdictLines n v)
+  planned-by (refused number place) f e h = let k = ap (λ (x : Planned). x .number) e in absurd (omega (arith, f .0, k, h))
+  planned-by (planned labels) f e h = rw e (rw (kept-four labels (f .1)) (f .1, f .0, refl))
+
+-- every report fits
+pub report-fits : (text : List ℕ) → length (reportOf text) ≤ 715
+unfolding reportOf
+report-fits text = go (parseOf text) refl
+  where
+    go : (p : Parse) → parseOf text ≡ p → length (reportIn p) ≤ 715
+    go (accepted n) e = let w = well-formed text n e in verdict-length n w (verdictOf n) (verdict-fitting n w)
+    go (rejected number place) e =
+        let s = refusal-small text number place e in
+        let l = refused-length number place (s .1) (s .2) in
+        omega (arith, l)
+
+-- ---- the call
+
+pub front-same : (out : List ℕ) {a b now : List ℕ} {end : ℕ} → a ≡ b → (end ≡ length a) × (now ≡ placed 0 a out) → (end ≡ length b) × (now ≡ placed 0 b out)
+front-same out same r = (r .0 ∙ ap length same, r .1 ∙ ap (λ (l : List ℕ). placed 0 l out) same)
+
+-- by the parser's answer p
+module _ (text : List ℕ) (p : Parsed) (means : meaning p ≡ parseOf text) where
+  pub text-refuses : (p .number ≡ 0 → ⊥) → (p .number < 100) × (p .place < 1000) × (refusedLine (p .number) (p .place) ≡ reportOf text)
+  unfolding reportOf
+  text-refuses h =
+      let e = sym means ∙ meant p refl refl h in
+      let s = refusal-small text (p .number) (p .place) e in
+      (s .1, s .2, sym (ap reportIn e))
+
+  pub text-serves : p .number ≡ 0 → verdictLines (netlistOf (p .circuit)) (verdictOf (netlistOf (p .circuit))) ≡ reportOf text
+  unfolding reportOf
+  text-serves h = sym (ap reportIn (accepted-as text p means h))
+
+-- by the lent buffers
+module _ (text out work : List ℕ) where
+  -- number 8, and both buffers untouched
+  abbrev Short : Type 0
+  Short =
+      (record { number = 8; bytes = 0 } ≡ reportAnswer text (length out) (length work))
+      × ((out ≡ reportLeft text (length work) out) × WorkKept (reportVerdict text (length out) (length work)) work work)
+
+  too-short : short (length out) (length work) ≡ true → Short
+  unfolding reportAnswer reportLeft
+  too-short e = (rw e, (rw e, kept (reportVerdict text (length out) (length work)) work))
+
+  pub short-out : length out < bytesDue → Short
+  unfolding short
+  short-out h = too-short (rw (lt-ltb (length out) bytesDue h))
+
+  pub short-work : length work < workDue → Short
+  unfolding short
+  short-work h = too-short (rw (lt-ltb (length work) workDue h) (either (ltb (length out) bytesDue)))
+    where
+      either : (b : Bool) → (b || true) ≡ true
+      either true = refl
+      either false = refl
+
+  pub report-served : bytesDue ≤ length out → workDue ≤ length work → {end : ℕ} {now after : List ℕ}
+      → (end ≡ length (reportOf text)) × ((now ≡ placed 0 (reportOf text) out) × WorkKept (planVerdict text (length work)) work after)
+      → (record { number = 0; bytes = end } ≡ reportAnswer text (length out) (length work))
+      × ((now ≡ reportLeft text (length work) out) × WorkKept (reportVerdict text (length out) (length work)) work after)
+  unfolding short reportAnswer reportLeft reportVerdict
+  report-served h k r =
+      rw (le-ltb (length out) bytesDue h, le-ltb (length work) workDue k)
+      (ap (λ (n : ℕ). record { number = 0; bytes = n }) (r .0), (r .1 .0 ∙ placed-front (reportOf text) out, r .1 .1))
+
+-- what was written is within the lent bytes
+pub report-within : (r : Reported) (text : List ℕ) (room work : ℕ) → r ≡ reportAnswer text room work → r .bytes ≤ room
+unfolding reportAnswer short
+report-within r text room work is = subst (λ (r : Reported). r .bytes ≤ room) (sym is) (go (ltb room bytesDue) refl (ltb work workDue))
+  where
+    go : (t : Bool) → ltb room bytesDue ≡ t → (u : Bool)
+        → cond {A = Reported} (t || u) (record { number = 8; bytes = 0 }) (record { number = 0; bytes = length (reportOf text) }) .bytes ≤ room
+    go true e u = omega arith
+    go false e true = omega arith
+    go false e false = omega (arith, ltb-false room bytesDue e, report-fits text)

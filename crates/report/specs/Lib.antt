@@ -1,0 +1,2 @@
+pub mod ReportCall
+pub mod Steps

@@ -1,0 +1,84 @@
+-- The report call (document 01, "Plan"):
+--   "That call gets the text, 1,024 bytes and 4,608 working numbers; if either is short it returns 8 before all else and writes nothing. Otherwise
+--   it returns how many bytes it wrote, and later bytes are untouched. The report is `plan,SIZE`; `label,LABEL,VALUE` with the sound coefficient;
+--   for each fault `fault,NUMBER,LABEL,VALUE` with the plan's first covering label and the faulted coefficient. Labels stand as in the plan, faults
+--   as in the text. A refusal is one line `refused,NUMBER,PLACE`."
+use Prim.Native.Nat.{ℕ, suc}
+use mathlib.Core.Bool.{Bool, cond, _||_}
+use mathlib.Core.List.{List, [], _∷_, _++_}
+use lib.Dec.{ltb}
+use lib.IntN.{ℤ, pos}
+use lib.ListN.{length, getD, drop}
+use Rattle.cover.specs.Cover.{covers, faultRows}
+use Rattle.integer.specs.First.{firstWhere}
+use Rattle.netlist.specs.Circuits.{Netlist}
+use Rattle.netlist.specs.Lines.{faultWord}
+use Rattle.netlist.specs.Parsing.{Parse, accepted, rejected, parseOf}
+use Rattle.text.specs.Writing.{gather, lineOf}
+use Rattle.walsh.specs.Spectrum.{coefficientOf}
+use Rattle.planner.specs.PlanCall.{Verdict, refused, planned, soundRows, faultedRows, workDue, verdictOf, planVerdict}
+use Rattle.report.specs.declared.Reported.{Reported}
+
+-- the words, as bytes
+abbrev pub planWord : List ℕ
+planWord = 112 ∷ 108 ∷ 97 ∷ 110 ∷ []
+
+abbrev pub labelWord : List ℕ
+labelWord = 108 ∷ 97 ∷ 98 ∷ 101 ∷ 108 ∷ []
+
+abbrev pub refusedWord : List ℕ
+refusedWord = 114 ∷ 101 ∷ 102 ∷ 117 ∷ 115 ∷ 101 ∷ 100 ∷ []
+
+unfoldable pub planLine : ℕ → List ℕ
+planLine size = lineOf planWord (pos size ∷ [])
+
+unfoldable pub refusedLine : ℕ → ℕ → List ℕ
+refusedLine number place = lineOf refusedWord (pos number ∷ pos place ∷ [])
+
+-- the line of label i of the plan, from 0, with the sound coefficient
+unfoldable pub labelLine : List ℤ → List ℕ → ℕ → List ℕ
+labelLine rows labels i = lineOf labelWord (pos (getD labels i 0) ∷ coefficientOf rows (getD labels i 0) ∷ [])
+
+unfoldable pub coversAt : List ℤ → List ℤ → List ℕ → ℕ → Bool
+coversAt rows faulted labels i = covers rows faulted (getD labels i 0)
+
+-- the plan's first label that covers the fault
+unfoldable pub coveringLabel : List ℤ → List ℤ → List ℕ → ℕ
+coveringLabel rows faulted labels = getD labels (firstWhere (coversAt rows faulted labels) (length labels)) 0
+
+-- the line of fault f, from 0, with the faulted coefficient
+unfoldable pub faultLine : List ℤ → List (List ℤ) → List ℕ → ℕ → List ℕ
+faultLine rows faults labels f =
+    lineOf faultWord (pos (suc f) ∷ pos (coveringLabel rows (faultRows faults f) labels) ∷ coefficientOf (faultRows faults f) (coveringLabel rows (faultRows faults f) labels) ∷ [])
+
+unfoldable pub planLines : List ℤ → List (List ℤ) → List ℕ → List ℕ
+planLines rows faults labels =
+    planLine (length labels) ++ (gather (labelLine rows labels) (length labels) ++ gather (faultLine rows faults labels) (length faults))
+
+abbrev pub verdictLines : Netlist → Verdict → List ℕ
+verdictLines n (refused number place) = refusedLine number place
+verdictLines n (planned labels) = planLines (soundRows n) (faultedRows n) labels
+
+abbrev pub reportIn : Parse → List ℕ
+reportIn (accepted n) = verdictLines n (verdictOf n)
+reportIn (rejected number place) = refusedLine number place
+
+unfoldable pub reportOf : List ℕ → List ℕ
+reportOf text = reportIn (parseOf text)
+
+abbrev pub bytesDue : ℕ
+bytesDue = 1024
+
+-- either lent buffer is short
+unfoldable pub short : ℕ → ℕ → Bool
+short room work = ltb room bytesDue || ltb work workDue
+
+unfoldable pub reportAnswer : List ℕ → ℕ → ℕ → Reported
+reportAnswer text room work = cond (short room work) (record { number = 8; bytes = 0 }) (record { number = 0; bytes = length (reportOf text) })
+
+unfoldable pub reportLeft : List ℕ → ℕ → List ℕ → List ℕ
+reportLeft text work out = cond (short (length out) work) out (reportOf text ++ drop (length (reportOf text)) out)
+
+-- by which verdict the working numbers were used
+unfoldable pub reportVerdict : List ℕ → ℕ → ℕ → Verdict
+reportVerdict text room work = cond (short room work) (refused 8 0) (planVerdict text work)
