@@ -5,13 +5,13 @@ use walsh::Answer;
 use walsh::Found;
 ghost use mathlib.Core.Path.{_≡_};
 ghost use lib.ListN.{length};
+ghost use Rattle.faults.specs.Faults.{stuckOf, stuckAnswer, stuckSpectrumOf, openedAnswer, openedSpectrumOf};
 ghost use Rattle.fixture.specs.ReadingCall.{readingAnswer, pairAnswer};
 ghost use Rattle.planner.specs.CircuitCall.{circuitAnswer, circuitSpectrum};
 ghost use Rattle.planner.specs.PlanCall.{planVerdict, planAnswer, WorkKept};
 ghost use Rattle.report.specs.ReportCall.{reportAnswer, reportLeft, reportVerdict};
 ghost use Rattle.text.specs.Text.{fieldOf, fieldStart};
 ghost use Rattle.walsh.specs.Answers.{leaves, foundOf};
-ghost use Rattle.walsh.specs.Faults.{stuckOf, stuckAnswer, stuckSpectrumOf, openedAnswer, openedSpectrumOf};
 ghost use Rattle.walsh.specs.Lists.{spectrumAnswer, rowsAnswer, rowsOf};
 ghost use Rattle.walsh.specs.Spectrum.{spectrumOf};
 ghost use Rattle.capi.specs.Replies.{Gives, GivesFound, GivesPlan, GivesReport, GivesReading, GivesPair};
@@ -135,7 +135,7 @@ pub extern "C" fn walsh_stuck(
     ensures { λ r. ⌜ Gives r (stuckAnswer (now (coefficients .entry)) (now (inputs .entry)) (now (values .entry)) (length (now (out .entry)))) ⌝ }
     ensures { λ r. ⌜ now (out .exit) ≡ leaves (stuckAnswer (now (coefficients .entry)) (now (inputs .entry)) (now (values .entry)) (length (now (out .entry)))) (stuckSpectrumOf (stuckOf (now (inputs .entry)) (now (values .entry))) (now (coefficients .entry))) (now (out .entry)) ⌝ }
 {
-    reply_to(walsh::stuck(coefficients, inputs, values, out))
+    reply_to(faults::stuck(coefficients, inputs, values, out))
 }
 
 // The spectrum with the last one to three lines opened.
@@ -144,7 +144,7 @@ pub extern "C" fn walsh_opened(coefficients: &[i32], values: &[u32], out: &mut [
     ensures { λ r. ⌜ Gives r (openedAnswer (now (coefficients .entry)) (now (values .entry)) (length (now (out .entry)))) ⌝ }
     ensures { λ r. ⌜ now (out .exit) ≡ leaves (openedAnswer (now (coefficients .entry)) (now (values .entry)) (length (now (out .entry)))) (openedSpectrumOf (now (coefficients .entry)) (now (values .entry))) (now (out .entry)) ⌝ }
 {
-    reply_to(walsh::opened(coefficients, values, out))
+    reply_to(faults::opened(coefficients, values, out))
 }
 
 // The spectrum of the text's circuit, sound for fault 0, else under that fault.

@@ -5,7 +5,7 @@ use mathlib.Core.Bool.{cond}
 use lib.Dec.{eqb}
 use lib.IntN.{ℤ, pos}
 use Rattle.integer.specs.Tab.{tab}
-use Rattle.walsh.specs.Faults.{bitOf}
+use Rattle.faults.specs.Faults.{bitOf}
 
 -- truth values: a product, a sum and a complement
 abbrev pub andOf : ℕ → ℕ → ℕ

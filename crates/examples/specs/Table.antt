@@ -18,7 +18,7 @@ use Rattle.report.specs.declared.Reported.{Reported}
 use Rattle.walsh.specs.Answers.{minus, leaves, foundOf}
 use Rattle.walsh.specs.Lists.{spectrumAnswer, rowsAnswer, rowsOf}
 use Rattle.walsh.specs.Spectrum.{coefficientOf, spectrumOf}
-use Rattle.walsh.specs.Faults.{stuckOf, stuckAnswer, stuckSpectrumOf, stuckRows, keptInputs, openedAnswer, openedSpectrumOf, openedRows}
+use Rattle.faults.specs.Faults.{stuckOf, stuckAnswer, stuckSpectrumOf, stuckRows, keptInputs, openedAnswer, openedSpectrumOf, openedRows}
 use Rattle.walsh.specs.declared.Found.the-variants.{Coefficient}
 use Rattle.examples.specs.Functions.{figure, productOrInput, selected, gated, gatedOpened}
 use Rattle.examples.specs.Texts.{productOrInputText, gatedText, listing, listingReport, silentText, silentReport, pairText, halfAndOneText}

@@ -1,4 +1,4 @@
-// The calls of `walsh` on document 01's figure of 16 rows. A line for each call: a word and the numbers, or `refused,NUMBER,PLACE`.
+// The calls of `walsh` and `faults` on document 01's figure of 16 rows. A line for each call: a word and the numbers, or `refused,NUMBER,PLACE`.
 use libc::STDOUT_FILENO;
 use walsh::Answer;
 
@@ -62,10 +62,10 @@ fn back() {
 fn stuck() {
     let coefficients = [7i32, -1, -1, -1, -1, 3, 3, -1, -3, -3, 1, 1, -3, 1, -3, 1];
     let mut out = [0i32; 16];
-    let answer = walsh::stuck(&coefficients, &[1, 3], &[0, 1], &mut out);
+    let answer = faults::stuck(&coefficients, &[1, 3], &[0, 1], &mut out);
     show(answer, b"stuck", &out);
     let mut untouched = [0i32; 16];
-    let refusal = walsh::stuck(&coefficients, &[3, 1], &[1, 0], &mut untouched);
+    let refusal = faults::stuck(&coefficients, &[3, 1], &[1, 0], &mut untouched);
     show(refusal, b"stuck", &untouched);
 }
 
@@ -73,7 +73,7 @@ fn stuck() {
 fn opened() {
     let coefficients = [7i32, -1, -1, -1, -1, 3, 3, -1, -3, -3, 1, 1, -3, 1, -3, 1];
     let mut out = [0i32; 8];
-    let answer = walsh::opened(&coefficients, &[1], &mut out);
+    let answer = faults::opened(&coefficients, &[1], &mut out);
     show(answer, b"opened", &out);
 }
 

@@ -1,16 +1,10 @@
-pub mod Arguments
 pub mod Butterflies
 pub mod Copies
-pub mod Digits
-pub mod Faulted
 pub mod Halving
 pub mod Merging
-pub mod OneStuck
-pub mod Opening
 pub mod Quotients
 pub mod Screens
 pub mod Spectra
-pub mod Sticking
 pub mod Terms
 pub mod Parity
 pub mod Undoing

@@ -1,5 +1,4 @@
 pub mod Spectrum
 pub mod Answers
 pub mod Lists
-pub mod Faults
 pub mod Steps

@@ -1,21 +1,24 @@
-// Walsh coefficients of lists: rows to spectrum and back, and the spectrum under a fault from coefficients alone.
+// Walsh coefficients of lists: one coefficient, rows to spectrum and back.
 //
-// No public call has a `requires`: what a call cannot take it refuses, with document 01's number and place, and then
+// The calls of the papers have no `requires`: what a call cannot take it refuses, with document 01's number and place, and then
 // leaves the lent result as it was.
 mod direct;
 mod fast;
-mod faults;
 mod lists;
-mod screen;
+pub mod screen;
 mod work;
 
 pub use direct::coefficient;
-pub use fast::transform;
-pub use faults::opened;
-pub use faults::stuck;
 pub use lists::rows;
 pub use lists::spectrum;
+
+// Leaves for crates of this repository, and no calls of the papers: all but `inputs_of` and `screen::screen` have a `requires`. (The module is
+// public since its function, re-exported, would have the module's name.)
+pub use fast::transform;
 pub use screen::inputs_of;
+pub use work::divided;
+pub use work::narrow;
+pub use work::widen;
 
 // What a call on a list answers.
 pub enum Answer {

@@ -61,14 +61,7 @@ fn first_outside(list: &[i32], low: i32, high: i32) -> usize
 }
 
 // Refusals 9, 12 (unless `right`), 10 and 8 (where `room` is below `due`), in this order.
-pub(crate) fn screen(
-    list: &[i32],
-    low: i32,
-    high: i32,
-    right: bool,
-    room: usize,
-    due: usize,
-) -> Answer
+pub fn screen(list: &[i32], low: i32, high: i32, right: bool, room: usize, due: usize) -> Answer
     ensures { λ r. ⌜ r ≡ screenOf low high right (now (list .entry)) room due ⌝ }
 {
     let n = list.len();

@@ -9,7 +9,7 @@ ghost use Rattle.walsh.specs.Answers.{leaves, written};
 ghost use Rattle.walsh.specs.Lists.{firstUnfit, quotientsOf, dividedAnswer};
 
 // Copies `list` to `work`.
-pub(crate) fn widen(list: &[i32], work: &mut [i64])
+pub fn widen(list: &[i32], work: &mut [i64])
     requires { ⌜ length (now work) ≡ length (now list) ⌝ }
     ensures { λ _. ⌜ now (work .exit) ≡ now (list .entry) ⌝ }
 {
@@ -22,7 +22,7 @@ pub(crate) fn widen(list: &[i32], work: &mut [i64])
 }
 
 // Copies `work` to the front of `out`.
-pub(crate) fn narrow(work: &[i64], out: &mut [i32])
+pub fn narrow(work: &[i64], out: &mut [i32])
     requires { ⌜ length (now work) ≤ length (now out) ⌝ }
     requires { ⌜ Within 2147483647 (now work) ⌝ }
     ensures { λ _. ⌜ now (out .exit) ≡ written (now (work .entry)) (now (out .entry)) ⌝ }
@@ -77,7 +77,7 @@ fn divide(sums: &[i64], divisor: usize, out: &mut [i32])
 }
 
 // The quotients of the sums to the front of `out`; or 11 at the first sum that does not divide or whose quotient is not from low to high.
-pub(crate) fn divided(sums: &[i64], divisor: usize, low: i64, high: i64, out: &mut [i32]) -> Answer
+pub fn divided(sums: &[i64], divisor: usize, low: i64, high: i64, out: &mut [i32]) -> Answer
     requires { ⌜ (1 ≤ divisor) × (divisor ≤ 2048) ⌝ }
     requires { ⌜ natAbs low + natAbs high ≤ 2147483647 ⌝ }
     requires { ⌜ length (now sums) ≤ length (now out) ⌝ }

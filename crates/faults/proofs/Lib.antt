@@ -1,0 +1,6 @@
+pub mod Arguments
+pub mod Digits
+pub mod Faulted
+pub mod OneStuck
+pub mod Opening
+pub mod Sticking
