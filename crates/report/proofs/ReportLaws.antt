@@ -1,12 +1,12 @@
 -- The report:
 --   report-fits        the report on any text has at most 715 bytes
---   report-within      what was written is within the lent bytes
+--   report-front       it stands at the front of the lent bytes, as many as the call counts
 --   plan-lines-length, labels-room, faults-room, plan-written    all lines of a plan, and writing them one part behind the other
 --   verdict-fitting    the numbers of a verdict are small, and its labels are at most 4 labels of the circuit
 --   refused-by, planned-by    a verdict's lines, by its numbers
 --   refusal-small      the numbers of a text's refusal
 --   text-refuses, text-serves, short-out, short-work, report-served    the call, by the parser's answer and the lent buffers
-use mathlib.Core.Path.{_≡_, refl, sym, ap, _∙_, subst}
+use mathlib.Core.Path.{_≡_, refl, sym, ap, ap₂, _∙_, subst}
 use mathlib.Core.Bool.{Bool, true, false, cond, _||_}
 use mathlib.Core.List.{List, _++_, append-assoc}
 use mathlib.Core.Logic.{⊎-elim}
@@ -14,7 +14,8 @@ use mathlib.Core.Option.{Option, none, some}
 use Prim.Native.Nat.{ℕ, suc, _+_, _*_, _^_, _<_, _≤_}
 use native.Mathlib.Omega.{arith}
 use lib.Dec.{ltb, lit≤}
-use lib.ListN.{length, take, getD, length-append}
+use lib.ListN.{length, take, drop, getD, length-append}
+use lib.Seq.{take-append-seam}
 use borrow.Author.Tests.{lt-ltb, le-ltb, ltb-true, ltb-false}
 use Rattle.cover.specs.Cover.{signatureOf}
 use Rattle.cover.specs.Steps.{Below}
@@ -210,13 +211,21 @@ module _ (text out work : List ℕ) where
       rw (le-ltb (length out) bytesDue h, le-ltb (length work) workDue k)
       (ap (λ (n : ℕ). record { number = 0; bytes = n }) (r .0), (r .1 .0 ∙ placed-front (reportOf text) out, r .1 .1))
 
--- what was written is within the lent bytes
-pub report-within : (r : Reported) (text : List ℕ) (room work : ℕ) → r ≡ reportAnswer text room work → r .bytes ≤ room
-unfolding reportAnswer short
-report-within r text room work is = subst (λ (r : Reported). r .bytes ≤ room) (sym is) (go (ltb room bytesDue) refl (ltb work workDue))
+-- the report stands at the front of the lent bytes, as many as the call counts
+pub report-front : (r : Reported) (text out now : List ℕ) (work : ℕ) → bytesDue ≤ length out → workDue ≤ work
+    → r ≡ reportAnswer text (length out) work → now ≡ reportLeft text work out
+    → ((r .bytes ≤ length now) × (r .bytes ≡ length (take (r .bytes) now))) × (take (r .bytes) now ≡ reportOf text)
+unfolding reportAnswer reportLeft short
+report-front r text out now work b w is left = ((within, bytes ∙ sym (ap length front)), front)
   where
-    go : (t : Bool) → ltb room bytesDue ≡ t → (u : Bool)
-        → cond {A = Reported} (t || u) (record { number = 8; bytes = 0 }) (record { number = 0; bytes = length (reportOf text) }) .bytes ≤ room
-    go true e u = omega arith
-    go false e true = omega arith
-    go false e false = omega (arith, ltb-false room bytesDue e, report-fits text)
+    bytes : r .bytes ≡ length (reportOf text)
+    bytes = ap (λ (r : Reported). r .bytes) is ∙ rw (le-ltb (length out) bytesDue b, le-ltb work workDue w)
+
+    now-is : now ≡ reportOf text ++ drop (length (reportOf text)) out
+    now-is = left ∙ rw (le-ltb (length out) bytesDue b, le-ltb work workDue w)
+
+    front : take (r .bytes) now ≡ reportOf text
+    front = ap₂ take bytes now-is ∙ take-append-seam (reportOf text) (drop (length (reportOf text)) out)
+
+    within : r .bytes ≤ length now
+    within = omega (arith, bytes, ap length now-is, length-append (reportOf text) (drop (length (reportOf text)) out))

@@ -1,12 +1,28 @@
 // The program `signature`: a circuit text from standard input, its report to standard output.
 use libc::STDIN_FILENO;
 use libc::STDOUT_FILENO;
+ghost use mathlib.Core.Path.{_≡_};
+ghost use Prim.Native.Nat.{_≤_};
+ghost use lib.ListN.{length, take};
+ghost use Rattle.io.specs.Counts.{Counts};
+ghost use Rattle.planner.specs.PlanCall.{workDue};
+ghost use Rattle.report.specs.ReportCall.{bytesDue, reportOf};
+
+// The report on the text, at the front of `out`, and how many bytes it has.
+fn written(text: &[u8], out: &mut [u8], work: &mut [u32]) -> usize
+    requires { ⌜ (bytesDue ≤ length (now out)) × (workDue ≤ length (now work)) ⌝ }
+    ensures { λ r. ⌜ Counts r (now (out .exit)) × (take r (now (out .exit)) ≡ reportOf (now (text .entry))) ⌝ }
+{
+    let r = report::report(text, out, work);
+    r.bytes
+}
 
 // Reads one byte more than a text may have, so that a longer input is refused by its length and never cut to a text that passes.
-fn answer(text: &mut [u8], out: &mut [u8], work: &mut [u32]) -> bool {
+fn answer(text: &mut [u8], out: &mut [u8], work: &mut [u32]) -> bool
+    requires { ⌜ (bytesDue ≤ length (now out)) × (workDue ≤ length (now work)) ⌝ }
+{
     let length = io::read_full(STDIN_FILENO, text);
-    let report = report::report(&text[..length], out, work);
-    let bytes = report.bytes;
+    let bytes = written(&text[..length], out, work);
     io::write_all(STDOUT_FILENO, &out[..bytes])
 }
 

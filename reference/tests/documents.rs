@@ -1,0 +1,154 @@
+//! The map from sentences to what keeps them, `docs/DEMANDS.md`, names things
+//! of this repository: each name must be there, and each wrong program named.
+
+use std::collections::BTreeSet;
+use std::fs;
+use std::path::{Path, PathBuf};
+
+fn root() -> PathBuf {
+    Path::new(env!("CARGO_MANIFEST_DIR")).join("..")
+}
+
+/// The files below a folder, but for what is built.
+fn files(folder: &Path, found: &mut Vec<PathBuf>) {
+    let entries = fs::read_dir(folder).unwrap_or_else(|error| panic!("{folder:?}: {error}"));
+    for entry in entries {
+        let path = entry.expect("an entry").path();
+        if path.is_dir() {
+            if path.file_name().is_some_and(|name| name != "target") {
+                files(&path, found);
+            }
+        } else {
+            found.push(path);
+        }
+    }
+}
+
+fn files_of(folder: &str, ending: &str) -> Vec<PathBuf> {
+    let mut found = Vec::new();
+    files(&root().join(folder), &mut found);
+    found.retain(|path| path.extension().is_some_and(|name| name == ending));
+    found
+}
+
+fn read(path: &Path) -> String {
+    fs::read_to_string(path).unwrap_or_else(|error| panic!("{path:?}: {error}"))
+}
+
+fn stem(path: &Path) -> String {
+    let name = path.file_stem().expect("a name");
+    name.to_string_lossy().into_owned()
+}
+
+/// Names as the papers, Rattle and its prover write them.
+fn words(text: &str) -> impl Iterator<Item = &str> {
+    text.split(|c: char| !(c.is_alphanumeric() || "_-".contains(c)))
+        .filter(|word| !word.is_empty())
+}
+
+/// The wrong programs that the prover must refuse.
+fn edits() -> BTreeSet<String> {
+    files_of("crates", "edit")
+        .iter()
+        .map(|path| stem(path))
+        .collect()
+}
+
+/// The crates by name.
+fn crates() -> BTreeSet<String> {
+    let list = read(&root().join("crates.txt"));
+    let names = list.lines().filter_map(|line| line.split_once(':'));
+    names.map(|(name, _)| name.trim().to_string()).collect()
+}
+
+/// What stands under `#[test]`.
+fn tests() -> BTreeSet<String> {
+    let mut names = BTreeSet::new();
+    for path in files_of("reference", "rs") {
+        let text = read(&path);
+        for part in text.split("#[test]").skip(1) {
+            let (_, rest) = part.split_once("fn ").expect("a function");
+            names.extend(words(rest).next().map(str::to_string));
+        }
+    }
+    names
+}
+
+/// Every name in the crates' code, definitions and proofs, files included.
+fn names() -> BTreeSet<String> {
+    let mut names = BTreeSet::new();
+    for ending in ["rt", "antt"] {
+        for path in files_of("crates", ending) {
+            names.extend(words(&read(&path)).map(str::to_string));
+            names.insert(stem(&path));
+        }
+    }
+    names
+}
+
+/// What stands between backticks, where it is one name or a path to one.
+fn quoted(cell: &str) -> Vec<&str> {
+    let parts = cell.split('`').skip(1).step_by(2);
+    let last = parts.map(|part| part.rsplit("::").next().unwrap_or(part));
+    last.filter(|part| words(part).next() == Some(part))
+        .collect()
+}
+
+/// The cells of each row of each table, with the heads of their columns.
+fn cells(text: &str) -> Vec<(String, String)> {
+    let mut cells = Vec::new();
+    let mut head: Vec<String> = Vec::new();
+    for line in text.lines() {
+        let Some(row) = line.strip_prefix('|') else {
+            head.clear();
+            continue;
+        };
+        let row = row.trim_end_matches('|').split('|').map(|cell| cell.trim());
+        if head.is_empty() {
+            head = row.map(str::to_string).collect();
+        } else {
+            let row: Vec<_> = row.map(str::to_string).collect();
+            assert_eq!(row.len(), head.len(), "cells of the row: {line}");
+            cells.extend(head.iter().cloned().zip(row));
+        }
+    }
+    cells
+}
+
+fn demands() -> String {
+    read(&root().join("docs/DEMANDS.md"))
+}
+
+#[test]
+fn what_the_map_names_is_there() {
+    let (edits, tests, names, crates) = (edits(), tests(), names(), crates());
+    assert!(edits.len() > 50 && tests.len() > 100 && crates.len() > 10);
+    let mut checked = 0;
+    for (head, cell) in cells(&demands()) {
+        for name in quoted(&cell) {
+            let there = match head.as_str() {
+                "refused" => edits.contains(name) || crates.contains(name),
+                "tried by" | "run by" => tests.contains(name) || crates.contains(name),
+                "defined by" | "kept by" | "exactly there" => {
+                    names.contains(name) || edits.contains(name) || crates.contains(name)
+                }
+                _ => continue,
+            };
+            assert!(
+                there,
+                "{name:?}, in a column {head:?}, is not there: {cell}"
+            );
+            checked += 1;
+        }
+    }
+    assert!(checked > 300, "{checked} names were looked for");
+}
+
+#[test]
+fn every_wrong_program_is_on_the_map() {
+    let demands = demands();
+    let named: BTreeSet<_> = demands.split('`').skip(1).step_by(2).collect();
+    for edit in edits() {
+        assert!(named.contains(edit.as_str()), "{edit} is not named");
+    }
+}
