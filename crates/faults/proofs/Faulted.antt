@@ -1,3 +1,5 @@
+-- The opened-line call's refusal 11 (document 01: "11 is given exactly when a sum does not divide"):
+--   undivided-exactly     where the earlier tests pass, 11 is given exactly when the sum over the opened lines at some label does not divide
 -- The fault calls on spectra of rows (document 01: "On a spectrum of rows both equal the sums of the faulted rows"):
 --   stuck-faulted         where the stuck-input call gives a result, it is the spectrum of the rows with the stuck inputs replaced
 --   opened-never-11       the opened-line call never refuses a spectrum of rows by 11
@@ -5,20 +7,25 @@
 --   replaced-shows, replaced-keeps    a replaced input has its value in the row, and every other input what it had
 use mathlib.Core.Path.{_≡_, refl, sym, ap, _∙_}
 use mathlib.Core.List.{List}
-use mathlib.Core.Bool.{Bool, true}
-use Prim.Native.Nat.{ℕ, _+_, _-_, _^_, _≤_, _<_}
+use mathlib.Core.Bool.{Bool, true, false, cond}
+use mathlib.Core.Logic.{_↔_}
+use Prim.Native.Nat.{ℕ, _+_, _-_, _%_, _^_, _≤_, _<_}
+use native.Mathlib.Nat.{lt-of-not-le}
+use native.Mathlib.Decide.{decLe}
 use native.Mathlib.Omega.{arith}
-use lib.IntN.{ℤ, pos}
+use lib.Dec.{ltb}
+use lib.IntN.{ℤ, pos, natAbs}
 use lib.ListN.{length}
-use borrow.Author.Tests.{le-ltb}
-use Rattle.integer.proofs.Firsts.{first-none}
-use Rattle.walsh.specs.Answers.{numberOf, andThen, choose, minus, inputsOf, screenOf}
+use borrow.Author.Tests.{le-ltb, lt-ltb, ltb-true, eq-eqb, ne-eqb}
+use Rattle.integer.proofs.Bools.{clash}
+use Rattle.integer.proofs.Firsts.{first-none, first-all, first-at}
+use Rattle.walsh.specs.Answers.{numberOf, andThen, minus, inputsOf, screenOf}
 use Rattle.walsh.specs.Spectrum.{spectrumOf}
 use Rattle.walsh.specs.declared.Answer.{Answer}
 use Rattle.walsh.specs.declared.Answer.the-variants.{Done, Refused}
 use Rattle.walsh.proofs.Screens.{ready, inputs-power, screen-not-11, first-passed}
 use Rattle.walsh.proofs.Spectra.{length-spectrum}
-use Rattle.faults.specs.Faults.{Stuck, bitOf, stuckOf, stuckAnswer, stuckSpectrumOf, stuckRows, replaced, keptInputs, openedRight, openedAnswer, openedSpectrumOf, openedRows, undividedAnswer, firstUndivided, undividedAt}
+use Rattle.faults.specs.Faults.{Stuck, bitOf, stuckOf, stuckAnswer, stuckSpectrumOf, stuckRows, replaced, keptInputs, openedRight, openedAnswer, openedSpectrumOf, openedRows, openedSumAt, undividedAnswer, firstUndivided, undividedAt}
 use Rattle.faults.proofs.Arguments.{stuck-right-means, opened-right-means, rising-rises, binary-values, binary-bits}
 use Rattle.faults.proofs.Digits.{put-shows, put-keeps}
 use Rattle.faults.proofs.Opening.{opened-spectrum, opened-divides}
@@ -56,11 +63,55 @@ module _ (rows : List ℤ) (values : List ℕ) (right : openedRight (inputsOf (l
       let all = first-none (undividedAt (spectrumOf rows) values) (2 ^ keptInputs (spectrumOf rows) values)
       (opened-divides rows values (keptInputs rows values) (inputsOf (length rows)) (inputs-power (length rows) some-inputs) refl parts
       (binary-bits values (opened-right-means (inputsOf (length rows)) values right .bits))) in
-      ap (λ (b : Bool). choose b (Refused 11 (firstUndivided (spectrumOf rows) values)) Done)
+      ap (λ (b : Bool). cond b (Refused 11 (firstUndivided (spectrumOf rows) values)) Done)
       (le-ltb (firstUndivided (spectrumOf rows) values) (2 ^ keptInputs (spectrumOf rows) values) (omega arith))
 
-abbrev screened : List ℤ → List ℕ → ℕ → Answer
+-- the tests before 11
+abbrev pub screened : List ℤ → List ℕ → ℕ → Answer
 screened c values room = screenOf (minus 2048000) (pos 2048000) (openedRight (inputsOf (length c)) values) c room (2 ^ keptInputs c values)
+
+module _ (c : List ℤ) (values : List ℕ) where
+  -- the sum at a label does not divide
+  abbrev pub Undivided : ℕ → Type 0
+  Undivided label = natAbs (openedSumAt c values label) % 2 ^ length values ≡ 0 → ⊥
+
+  undivided-means : (label : ℕ) → undividedAt c values label ≡ true → Undivided label
+  unfolding undividedAt
+  undivided-means label t e = clash (sym t ∙ rw (eq-eqb _ 0 e))
+
+  means-undivided : (label : ℕ) → Undivided label → undividedAt c values label ≡ true
+  unfolding undividedAt
+  means-undivided label n = rw (ne-eqb (natAbs (openedSumAt c values label) % 2 ^ length values) 0 n)
+
+  first-in : (label : ℕ) → label < 2 ^ keptInputs c values → Undivided label → firstUndivided c values < 2 ^ keptInputs c values
+  unfolding firstUndivided
+  first-in label l u = pick (decLe (2 ^ keptInputs c values) (firstUndivided c values))
+    where
+      pick : Dec (2 ^ keptInputs c values ≤ firstUndivided c values) → firstUndivided c values < 2 ^ keptInputs c values
+      pick (yes h) = clash (sym (means-undivided label u) ∙ first-all (undividedAt c values) (2 ^ keptInputs c values) h label l)
+      pick (no h) = lt-of-not-le h
+
+  at-first : firstUndivided c values < 2 ^ keptInputs c values → Undivided (firstUndivided c values)
+  unfolding firstUndivided
+  at-first h = undivided-means (firstUndivided c values) (first-at (undividedAt c values) (2 ^ keptInputs c values) h)
+
+  pub undivided-exactly : (room : ℕ) → screened c values room ≡ Done
+      → (numberOf (openedAnswer c values room) ≡ 11) ↔ ((label : ℕ) × (label < 2 ^ keptInputs c values) × Undivided label)
+  unfolding openedAnswer undividedAnswer
+  undivided-exactly room e = (λ n. to (ltb (firstUndivided c values) (2 ^ keptInputs c values)) refl (sym (ap numberOf passed) ∙ n), λ s. ap numberOf passed ∙ from s)
+    where
+      passed : openedAnswer c values room ≡ undividedAnswer c values
+      passed = ap (λ (a : Answer). andThen a (undividedAnswer c values)) e
+
+      to : (b : Bool) → ltb (firstUndivided c values) (2 ^ keptInputs c values) ≡ b → numberOf (cond b (Refused 11 (firstUndivided c values)) Done) ≡ 11
+          → (label : ℕ) × (label < 2 ^ keptInputs c values) × Undivided label
+      to true t n = let l = ltb-true (firstUndivided c values) (2 ^ keptInputs c values) t in (firstUndivided c values, l, at-first l)
+      to false t n = absurd (omega arith)
+
+      from : (label : ℕ) × (label < 2 ^ keptInputs c values) × Undivided label → numberOf (undividedAnswer c values) ≡ 11
+      from s =
+          ap (λ (b : Bool). numberOf (cond b (Refused 11 (firstUndivided c values)) Done))
+          (lt-ltb (firstUndivided c values) (2 ^ keptInputs c values) (first-in (s .0) (s .1) (s .2)))
 
 -- the tests before 11 passed
 right-of : (rows : List ℤ) (values : List ℕ) (room : ℕ) → screened (spectrumOf rows) values room ≡ Done → openedRight (inputsOf (length rows)) values ≡ true

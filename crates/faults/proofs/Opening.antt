@@ -26,7 +26,7 @@ use Rattle.integer.proofs.Sums.{signed-scale}
 use Rattle.integer.proofs.Tabs.{length-tab, getD-tab, tab-ext, take-tab}
 use Rattle.integer.proofs.Halves.{double}
 use Rattle.walsh.specs.Spectrum.{signedSum, spectrumOf}
-use Rattle.walsh.specs.Answers.{choose, minus, inputsOf, outside}
+use Rattle.walsh.specs.Answers.{minus, inputsOf, outside}
 use Rattle.walsh.specs.Lists.{quotientOf, quotientAt, quotientsOf, unfit, unfitAt, firstUnfit, dividedAnswer}
 use Rattle.walsh.specs.declared.Answer.{Answer}
 use Rattle.walsh.specs.declared.Answer.the-variants.{Done, Refused}
@@ -122,7 +122,7 @@ length-after n (v ∷ rest) = ap suc (length-after (suc n) rest)
 
 -- 11 where the first sum that does not divide is before the end
 abbrev answer : ℕ → ℕ → Answer
-answer first n = choose (ltb first n) (Refused 11 first) Done
+answer first n = cond (ltb first n) (Refused 11 first) Done
 
 -- the sums at the labels of n inputs
 abbrev pub openedSums : List ℤ → List ℕ → ℕ → List ℤ

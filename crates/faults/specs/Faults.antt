@@ -9,7 +9,7 @@ use lib.ListN.{length}
 use Rattle.integer.specs.First.{firstWhere}
 use Rattle.integer.specs.Sum.{signed}
 use Rattle.integer.specs.Tab.{tab, nth}
-use Rattle.walsh.specs.Answers.{choose, andThen, minus, screenOf, inputsOf}
+use Rattle.walsh.specs.Answers.{andThen, minus, screenOf, inputsOf}
 use Rattle.walsh.specs.Lists.{quotientOf}
 use Rattle.walsh.specs.declared.Answer.{Answer}
 use Rattle.walsh.specs.declared.Answer.the-variants.{Done, Refused}
@@ -102,7 +102,7 @@ firstUndivided coefficients values = firstWhere (undividedAt coefficients values
 -- "11 is given exactly when a sum does not divide."
 unfoldable pub undividedAnswer : List ℤ → List ℕ → Answer
 undividedAnswer coefficients values =
-    choose (ltb (firstUndivided coefficients values) (2 ^ keptInputs coefficients values)) (Refused 11 (firstUndivided coefficients values)) Done
+    cond (ltb (firstUndivided coefficients values) (2 ^ keptInputs coefficients values)) (Refused 11 (firstUndivided coefficients values)) Done
 
 unfoldable pub openedAnswer : List ℤ → List ℕ → ℕ → Answer
 openedAnswer coefficients values room =

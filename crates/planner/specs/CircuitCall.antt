@@ -2,6 +2,7 @@
 --   "The circuit call gets a text and a fault number (0 for the sound circuit, else 1 to Q, otherwise 12) and writes the 2^N coefficients of those
 --   rows, no more." "Calls on text then test 12, 8, 13, 14."
 use Prim.Native.Nat.{ℕ, _^_}
+use mathlib.Core.Bool.{cond}
 use mathlib.Core.List.{List, []}
 use lib.Dec.{ltb}
 use lib.IntN.{ℤ}
@@ -9,7 +10,6 @@ use lib.ListN.{length}
 use Rattle.netlist.specs.Circuits.{Netlist, faultAt}
 use Rattle.netlist.specs.Parsing.{Parse, accepted, rejected, parseOf}
 use Rattle.simulation.specs.Rows.{rowsOf}
-use Rattle.walsh.specs.Answers.{choose}
 use Rattle.walsh.specs.Spectrum.{spectrumOf}
 use Rattle.walsh.specs.declared.Answer.{Answer}
 use Rattle.walsh.specs.declared.Answer.the-variants.{Done, Refused}
@@ -21,10 +21,10 @@ afterText (rejected number place) next = Refused number place
 
 -- 8 unless there is room for 2^N coefficients
 unfoldable pub roomAnswer : ℕ → ℕ → Answer
-roomAnswer inputs room = choose (ltb room (2 ^ inputs)) (Refused 8 0) Done
+roomAnswer inputs room = cond (ltb room (2 ^ inputs)) (Refused 8 0) Done
 
 unfoldable pub faultAnswer : ℕ → ℕ → Netlist → Answer
-faultAnswer fault room n = choose (ltb (length (n .faults)) fault) (Refused 12 0) (roomAnswer (n .inputs) room)
+faultAnswer fault room n = cond (ltb (length (n .faults)) fault) (Refused 12 0) (roomAnswer (n .inputs) room)
 
 unfoldable pub circuitAnswer : List ℕ → ℕ → ℕ → Answer
 circuitAnswer text fault room = afterText (parseOf text) (faultAnswer fault room)

@@ -1,12 +1,12 @@
 -- The sum and the count of the rows that agree, row by row:
---   partial-le, term-room    the size of a partial sum; one more row of rows within 1,000 leaves one that fits 32 bits
+--   sum-le, term-room        the size of a partial sum; one more row of rows within 1,000 leaves one that fits 32 bits
 --   count-le                 a count is at most the number of rows
 --   sum-taken, sum-left, count-taken, count-left    one row more, that agrees or not
 use mathlib.Core.Path.{_≡_, ap, sym, _∙_}
 use mathlib.Core.Bool.{Bool, true, false, cond}
 use mathlib.Core.List.{List}
 use Prim.Native.Nat.{ℕ, zero, suc, _+_, _*_, _^_, _≤_, _<_, zero-le}
-use native.Mathlib.Nat.{add-zero}
+use native.Mathlib.Nat.{add-zero, le-refl}
 use native.Mathlib.Numerals.{add-one}
 use native.Mathlib.Omega.{arith}
 use lib.Bits.{bitAnd}
@@ -15,23 +15,23 @@ use lib.ListN.{length}
 use borrow.Author.Tests.{eq-eqb, ne-eqb}
 use Rattle.integer.specs.Sum.{sumTo}
 use Rattle.integer.specs.Tab.{nth, Within}
-use Rattle.integer.proofs.Bounds.{natAbs-sum}
+use Rattle.integer.proofs.Bounds.{partial-le, partial-room}
 use Rattle.reading.specs.Readings.{agrees, countTo, termAt}
 
 module _ (mask values : ℕ) (rows : List ℤ) where
-  term-le : (B x : ℕ) → natAbs (nth rows x) ≤ B → natAbs (termAt mask values rows x) ≤ B
-  term-le B x h = go (agrees mask values x)
+  term-small : (x : ℕ) → natAbs (termAt mask values rows x) ≤ natAbs (nth rows x)
+  term-small x = go (agrees mask values x)
     where
-      go : (b : Bool) → natAbs (cond b (nth rows x) (pos 0)) ≤ B
-      go true = h
+      go : (b : Bool) → natAbs (cond b (nth rows x) (pos 0)) ≤ natAbs (nth rows x)
+      go true = le-refl (natAbs (nth rows x))
       go false = zero-le
 
-  pub partial-le : (B n : ℕ) → n ≤ length rows → Within B rows → natAbs (sumTo n (termAt mask values rows)) ≤ n * B
-  partial-le B n l h = natAbs-sum B n (termAt mask values rows) (λ x k. term-le B x (h x (omega arith)))
+  pub sum-le : (B n : ℕ) → n ≤ length rows → Within B rows → natAbs (sumTo n (termAt mask values rows)) ≤ n * B
+  sum-le = partial-le rows (termAt mask values rows) term-small
 
   pub term-room : (i : ℕ) → length rows ≤ 2048 → Within 1000 rows → i < length rows
       → natAbs (sumTo i (termAt mask values rows)) + natAbs (nth rows i) < 2 ^ 31
-  term-room i few h l = omega (arith, partial-le 1000 i (omega arith) h, h i l)
+  term-room = partial-room rows (termAt mask values rows) term-small
 
   module _ (i : ℕ) where
     pub sum-taken : bitAnd i mask ≡ values → sumTo i (termAt mask values rows) +ℤ nth rows i ≡ sumTo (i + 1) (termAt mask values rows)

@@ -17,11 +17,11 @@ use Rattle.reading.specs.Exact.{Exact}
 use Rattle.reading.specs.Readings.{countOf, quotient, valueOf, wholeSum}
 use Rattle.reading.proofs.Counts.{count-power}
 use Rattle.reading.proofs.Exactness.{quotient-exact, difference-exact}
-use Rattle.reading.proofs.Totals.{partial-le}
+use Rattle.reading.proofs.Totals.{sum-le}
 
 pub whole-bounded : (mask values : ℕ) (rows : List ℤ) → length rows ≤ 2048 → Within 1000 rows → natAbs (wholeSum mask values rows) ≤ 2048000
 unfolding wholeSum
-whole-bounded mask values rows few h = omega (arith, partial-le mask values rows 1000 (length rows) (le-refl (length rows)) h)
+whole-bounded mask values rows few h = omega (arith, sum-le mask values rows 1000 (length rows) (le-refl (length rows)) h)
 
 module _ (n mask values : ℕ) (most : n ≤ 11) (below : mask < 2 ^ n) (within : bitAnd values mask ≡ values) where
   module _ (rows : List ℤ) (long : length rows ≡ 2 ^ n) (near : Within 1000 rows) where

@@ -26,7 +26,7 @@ use Rattle.integer.proofs.Firsts.{first-hit, first-none, first-all}
 use Rattle.integer.proofs.Group.{natAbs-neg}
 use Rattle.integer.proofs.Tabs.{length-tab, getD-tab}
 use Rattle.walsh.specs.declared.Answer.the-variants.{Done, Refused}
-use Rattle.walsh.specs.Answers.{choose, outside}
+use Rattle.walsh.specs.Answers.{outside}
 use Rattle.walsh.specs.Lists.{quotientOf, unfit, unfitAt, firstUnfit, dividedAnswer, quotientAt, quotientsOf}
 use Rattle.walsh.proofs.Screens.{outside-sizes}
 
@@ -133,7 +133,7 @@ module _ (d : ℕ) (low high : ℤ) (sums : List ℤ) where
   unfolding dividedAnswer
   divided-done e = fits-all (pick (ltb (firstUnfit d low high sums) (length sums)) refl e)
     where
-      pick : (b : Bool) → ltb (firstUnfit d low high sums) (length sums) ≡ b → choose b (Refused 11 (firstUnfit d low high sums)) Done ≡ Done → length sums ≤ firstUnfit d low high sums
+      pick : (b : Bool) → ltb (firstUnfit d low high sums) (length sums) ≡ b → cond b (Refused 11 (firstUnfit d low high sums)) Done ≡ Done → length sums ≤ firstUnfit d low high sums
       pick true k e = let z : _≡_ {A = ℕ} 0 1 = cc in absurd (omega arith)
       pick false k e = ltb-false _ _ k
 

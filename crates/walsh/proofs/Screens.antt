@@ -34,7 +34,7 @@ use Rattle.integer.proofs.Firsts.{first-hit, first-none, first-all}
 use Rattle.integer.proofs.Group.{natAbs-neg}
 use Rattle.walsh.specs.declared.Answer.{Answer}
 use Rattle.walsh.specs.declared.Answer.the-variants.{Done, Refused}
-use Rattle.walsh.specs.Answers.{numberOf, andThen, choose, inputsTo, inputsOf, outside, outsideAt, firstOutside, screenOf}
+use Rattle.walsh.specs.Answers.{numberOf, andThen, inputsTo, inputsOf, outside, outsideAt, firstOutside, screenOf}
 use Rattle.walsh.specs.Steps.{anyWhere, anyOutside}
 
 -- The number of inputs.
@@ -227,7 +227,7 @@ unfolding screenOf
 screen-done low high test l room due e = go (eqb (inputsOf (length l)) 0) refl test refl (ltb (firstOutside low high l) (length l)) refl (ltb room due) refl e
   where
     go : (a : Bool) → eqb (inputsOf (length l)) 0 ≡ a → (t : Bool) → test ≡ t → (b : Bool) → ltb (firstOutside low high l) (length l) ≡ b → (c : Bool) → ltb room due ≡ c
-        → choose a (Refused 9 0) (choose t (choose b (Refused 10 (firstOutside low high l)) (choose c (Refused 8 0) Done)) (Refused 12 0)) ≡ Done → Screened low high test l room due
+        → cond a (Refused 9 0) (cond t (cond b (Refused 10 (firstOutside low high l)) (cond c (Refused 8 0) Done)) (Refused 12 0)) ≡ Done → Screened low high test l room due
     go false ea true et false eb false ec e = record { sized = above-zero _ (eqb-false _ _ ea); right = et; inside = ltb-false _ _ eb; fits = ltb-false _ _ ec }
     go false ea true et false eb true ec e = never 8 0 e
     go false ea true et true eb c ec e = never 10 (firstOutside low high l) e
@@ -244,7 +244,7 @@ pub screen-not-11 : (low high : ℤ) (test : Bool) (l : List ℤ) (room due : �
 unfolding screenOf
 screen-not-11 low high test l room due = go (eqb (inputsOf (length l)) 0) test (ltb (firstOutside low high l) (length l)) (ltb room due)
   where
-    go : (a t b c : Bool) → numberOf (choose a (Refused 9 0) (choose t (choose b (Refused 10 (firstOutside low high l)) (choose c (Refused 8 0) Done)) (Refused 12 0))) ≡ 11 → ⊥
+    go : (a t b c : Bool) → numberOf (cond a (Refused 9 0) (cond t (cond b (Refused 10 (firstOutside low high l)) (cond c (Refused 8 0) Done)) (Refused 12 0))) ≡ 11 → ⊥
     go true t b c e = omega arith
     go false false b c e = omega arith
     go false true true c e = omega arith

@@ -12,7 +12,7 @@ use Rattle.integer.specs.Tab.{tab, nth, Within}
 use Rattle.integer.proofs.Tabs.{length-tab, getD-tab, tab-ext}
 use Rattle.walsh.specs.Spectrum.{signedSum, coefficientOf, spectrumOf}
 use Rattle.walsh.proofs.Halving.{sum-equal}
-use Rattle.walsh.proofs.Terms.{partial-le}
+use Rattle.walsh.proofs.Terms.{sum-le}
 
 pub length-spectrum : (a : List ℤ) → length (spectrumOf a) ≡ length a
 unfolding spectrumOf
@@ -31,4 +31,4 @@ spectrum-rule n f =
 
 pub within-spectrum : (B : ℕ) (a : List ℤ) → Within B a → Within (length a * B) (spectrumOf a)
 within-spectrum B a w x l =
-    subst (λ (z : ℤ). natAbs z ≤ length a * B) (sym (nth-spectrum a (length a) x refl (omega (arith, length-spectrum a)))) (partial-le B (length a) (nth a) x w)
+    subst (λ (z : ℤ). natAbs z ≤ length a * B) (sym (nth-spectrum a (length a) x refl (omega (arith, length-spectrum a)))) (sum-le a x B (length a) (omega arith) w)

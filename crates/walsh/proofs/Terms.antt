@@ -1,10 +1,11 @@
 -- One coefficient, term by term:
---   term-le, partial-le     sizes of a term and of a partial sum, where each value is within B
+--   sum-le                  the size of a partial sum of rows within B
 --   term-room               one more term of rows within 1,000 leaves a partial sum that fits 32 bits
 --   more-even, more-odd     the partial sum with one more term, by the parity of ones in label AND row
-use mathlib.Core.Path.{_≡_, refl, sym, ap, subst}
+use mathlib.Core.Path.{_≡_, refl, sym, ap}
 use mathlib.Core.List.{List}
 use Prim.Native.Nat.{ℕ, zero, suc, _+_, _*_, _%_, _^_, _≤_, _<_}
+use native.Mathlib.Nat.{le-of-eq}
 use native.Mathlib.Numerals.{add-one}
 use native.Mathlib.Omega.{arith}
 use lib.IntN.{ℤ, _+ℤ_, _-ℤ_, natAbs}
@@ -13,20 +14,22 @@ use lib.Bits.{bitAnd}
 use lib.Count.{ones}
 use Rattle.integer.specs.Sum.{sumTo, signed}
 use Rattle.integer.specs.Tab.{nth, Within}
-use Rattle.integer.proofs.Bounds.{natAbs-sum, natAbs-signed}
+use Rattle.integer.proofs.Bounds.{natAbs-signed, partial-le, partial-room}
 use Rattle.walsh.specs.Spectrum.{sign, termOf, signedSum}
 
-pub term-le : (B : ℕ) (f : ℕ → ℤ) (label x : ℕ) → natAbs (f x) ≤ B → natAbs (termOf f label x) ≤ B
-unfolding termOf
-term-le B f label x h = subst (λ (n : ℕ). n ≤ B) (sym (natAbs-signed (sign label x) (f x))) h
+-- a sign changes no size
+module _ (rows : List ℤ) (label : ℕ) where
+  term-small : (x : ℕ) → natAbs (termOf (nth rows) label x) ≤ natAbs (nth rows x)
+  unfolding termOf
+  term-small x = le-of-eq (natAbs-signed (sign label x) (nth rows x))
 
-pub partial-le : (B n : ℕ) (f : ℕ → ℤ) (label : ℕ) → ((x : ℕ) → x < n → natAbs (f x) ≤ B) → natAbs (signedSum n f label) ≤ n * B
-unfolding signedSum
-partial-le B n f label h = natAbs-sum B n (termOf f label) (λ x l. term-le B f label x (h x l))
+  pub sum-le : (B n : ℕ) → n ≤ length rows → Within B rows → natAbs (signedSum n (nth rows) label) ≤ n * B
+  unfolding signedSum
+  sum-le = partial-le rows (termOf (nth rows) label) term-small
 
-pub term-room : (rows : List ℤ) (label i : ℕ) → length rows ≤ 2048 → Within 1000 rows → i < length rows
-    → natAbs (signedSum i (nth rows) label) + natAbs (nth rows i) < 2 ^ 31
-term-room rows label i few h l = omega (arith, partial-le 1000 i (nth rows) label (λ x k. h x (omega arith)), h i l)
+  pub term-room : (i : ℕ) → length rows ≤ 2048 → Within 1000 rows → i < length rows → natAbs (signedSum i (nth rows) label) + natAbs (nth rows i) < 2 ^ 31
+  unfolding signedSum
+  term-room = partial-room rows (termOf (nth rows) label) term-small
 
 pub more-even : (f : ℕ → ℤ) (label i : ℕ) → sign label i ≡ 0 → signedSum i f label +ℤ f i ≡ signedSum (i + 1) f label
 unfolding sumTo termOf signedSum

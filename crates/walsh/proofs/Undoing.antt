@@ -6,7 +6,7 @@
 use mathlib.Core.Path.{_≡_, refl, sym, ap, ap₂, _∙_, subst}
 use mathlib.Core.List.{List}
 use mathlib.Core.Logic.{_↔_, _⊎_, inl, inr, ⊎-elim}
-use mathlib.Core.Bool.{Bool, true, false}
+use mathlib.Core.Bool.{Bool, true, false, cond}
 use Prim.Native.Nat.{ℕ, zero, suc, _*_, _^_, _≤_, _<_}
 use native.Mathlib.Omega.{arith}
 use lib.Dec.{ltb}
@@ -19,7 +19,7 @@ use Rattle.integer.proofs.Division.{quot-exact, quot-multiple, multiple-mod}
 use Rattle.integer.proofs.Group.{mul-cancel}
 use Rattle.integer.proofs.Tabs.{length-tab, getD-tab, tab-ext, tab-nth}
 use Rattle.walsh.specs.Spectrum.{signedSum, spectrumOf}
-use Rattle.walsh.specs.Answers.{numberOf, andThen, choose, minus, outside, inputsOf, screenOf}
+use Rattle.walsh.specs.Answers.{numberOf, andThen, minus, outside, inputsOf, screenOf}
 use Rattle.walsh.specs.Lists.{spectrumAnswer, unfit, unfitAt, firstUnfit, dividedAnswer, quotientOf, quotientAt, quotientsOf, rowsOf, rowsAnswer}
 use Rattle.walsh.specs.declared.Answer.{Answer}
 use Rattle.walsh.specs.declared.Answer.the-variants.{Done, Refused}
@@ -139,8 +139,8 @@ module _ (c : List ℤ) (room : ℕ) (passed : screened c room ≡ Done) where
   unfolding dividedAnswer
   done-or-11 = go (ltb (firstUnfit (length c) (minus 1000) (pos 1000) (spectrumOf c)) (length (spectrumOf c)))
     where
-      go : (b : Bool) → (choose b (Refused 11 (firstUnfit (length c) (minus 1000) (pos 1000) (spectrumOf c))) Done ≡ Done)
-          ⊎ (numberOf (choose b (Refused 11 (firstUnfit (length c) (minus 1000) (pos 1000) (spectrumOf c))) Done) ≡ 11)
+      go : (b : Bool) → (cond b (Refused 11 (firstUnfit (length c) (minus 1000) (pos 1000) (spectrumOf c))) Done ≡ Done)
+          ⊎ (numberOf (cond b (Refused 11 (firstUnfit (length c) (minus 1000) (pos 1000) (spectrumOf c))) Done) ≡ 11)
       go true = inr refl
       go false = inl refl
 

@@ -25,10 +25,6 @@ abbrev pub placeOf : Answer → ℕ
 placeOf Done = 0
 placeOf (Refused number place) = place
 
-abbrev pub choose : Bool → Answer → Answer → Answer
-choose true a b = a
-choose false a b = b
-
 -- the next tests, where none before has refused
 abbrev pub andThen : Answer → Answer → Answer
 andThen Done next = next
@@ -68,10 +64,10 @@ firstOutside low high l = firstWhere (outsideAt low high l) (length l)
 -- 9, 12 unless the arguments are right, 10 at the first number that is not from low to high, 8 unless there is room for what is due
 unfoldable pub screenOf : ℤ → ℤ → Bool → List ℤ → ℕ → ℕ → Answer
 screenOf low high right l room due =
-    choose (eqb (inputsOf (length l)) 0) (Refused 9 0)
-    (choose right
-    (choose (ltb (firstOutside low high l) (length l)) (Refused 10 (firstOutside low high l))
-    (choose (ltb room due) (Refused 8 0) Done))
+    cond (eqb (inputsOf (length l)) 0) (Refused 9 0)
+    (cond right
+    (cond (ltb (firstOutside low high l) (length l)) (Refused 10 (firstOutside low high l))
+    (cond (ltb room due) (Refused 8 0) Done))
     (Refused 12 0))
 
 -- the call for one coefficient has no result to lend; 12 unless the label is below the length

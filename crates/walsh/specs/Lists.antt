@@ -10,7 +10,7 @@ use lib.ListN.{length}
 use lib.Signed.{quotZ}
 use Rattle.integer.specs.First.{firstWhere}
 use Rattle.integer.specs.Tab.{tab, nth}
-use Rattle.walsh.specs.Answers.{choose, andThen, minus, outside, screenOf}
+use Rattle.walsh.specs.Answers.{andThen, minus, outside, screenOf}
 use Rattle.walsh.specs.Spectrum.{spectrumOf}
 use Rattle.walsh.specs.declared.Answer.{Answer}
 use Rattle.walsh.specs.declared.Answer.the-variants.{Done, Refused}
@@ -34,7 +34,7 @@ firstUnfit d low high sums = firstWhere (unfitAt d low high sums) (length sums)
 
 -- 11 at the first unfit sum
 unfoldable pub dividedAnswer : ℕ → ℤ → ℤ → List ℤ → Answer
-dividedAnswer d low high sums = choose (ltb (firstUnfit d low high sums) (length sums)) (Refused 11 (firstUnfit d low high sums)) Done
+dividedAnswer d low high sums = cond (ltb (firstUnfit d low high sums) (length sums)) (Refused 11 (firstUnfit d low high sums)) Done
 
 unfoldable pub quotientAt : ℕ → List ℤ → ℕ → ℤ
 quotientAt d sums x = quotientOf d (nth sums x)

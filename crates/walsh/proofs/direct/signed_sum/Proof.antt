@@ -13,7 +13,7 @@ use mathlib.Core.Logic.{⊎-elim}
 use Rattle.integer.specs.Sum.{sumTo}
 use Rattle.integer.proofs.Bounds.{sfits-abs}
 use Rattle.integer.proofs.Machine.{add-is, sub-is, add-fits, sub-fits}
-use Rattle.walsh.proofs.Terms.{term-room, more-even, more-odd, partial-le}
+use Rattle.walsh.proofs.Terms.{sum-le, term-room, more-even, more-odd}
 use Rattle.walsh.proofs.direct.signed_sum.Statement.{statement}
 use Rattle.walsh.proofs.direct.signed_sum.Tie as tie
 
@@ -82,7 +82,7 @@ returns c =
     let label = l .before .args .label in
     let n : l .loop .i ≡ length rows = omega arith in
     ap (toZ w32) (l .loop .inv .1 ∙ ap (λ (k : ℕ). ofZ w32 (signedSum k (nth rows) label)) n)
-    ∙ toZ-ofZ w32 (coefficientOf rows label) (sfits-abs (omega (arith, partial-le 1000 (length rows) (nth rows) label (l .before .pre .1))))
+    ∙ toZ-ofZ w32 (coefficientOf rows label) (sfits-abs (omega (arith, sum-le rows label 1000 (length rows) (omega arith) (l .before .pre .1))))
 
 pub signed-sum-spec : {M : Type 1} → statement M
 signed-sum-spec =
