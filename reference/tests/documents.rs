@@ -129,9 +129,10 @@ fn what_the_map_names_is_there() {
             let there = match head.as_str() {
                 "refused" => edits.contains(name) || crates.contains(name),
                 "tried by" | "run by" => tests.contains(name) || crates.contains(name),
-                "defined by" | "kept by" | "exactly there" => {
-                    names.contains(name) || edits.contains(name) || crates.contains(name)
-                }
+                "defined by" | "exactly there" => names.contains(name) || crates.contains(name),
+                "kept by" => [&names, &edits, &tests, &crates]
+                    .iter()
+                    .any(|known| known.contains(name)),
                 _ => continue,
             };
             assert!(

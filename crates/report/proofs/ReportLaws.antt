@@ -16,7 +16,7 @@ use native.Mathlib.Omega.{arith}
 use lib.Dec.{ltb, lit≤}
 use lib.ListN.{length, take, drop, getD, length-append}
 use lib.Seq.{take-append-seam}
-use borrow.Author.Tests.{lt-ltb, le-ltb, ltb-true, ltb-false}
+use borrow.Author.Tests.{lt-ltb, le-ltb, ltb-true}
 use Rattle.cover.specs.Cover.{signatureOf}
 use Rattle.cover.specs.Steps.{Below}
 use Rattle.cover.proofs.LabelOrder.{at-mem}

@@ -3,7 +3,7 @@
 --   "A refusal writes nothing." "Both write the list's length of 32-bit numbers into the lent result and no more."
 use Prim.Native.Nat.{ℕ, zero, suc, _^_}
 use mathlib.Core.List.{List, _++_}
-use mathlib.Core.Bool.{Bool, true, false, cond}
+use mathlib.Core.Bool.{Bool, true, cond}
 use lib.IntN.{ℤ, pos, negℤ}
 use lib.Dec.{eqb, ltb}
 use lib.ListN.{length, drop}

@@ -1,7 +1,6 @@
 // The tests that every call on a list begins with.
 use crate::Answer;
 ghost use mathlib.Core.Path.{_≡_};
-ghost use lib.ListN.{length};
 ghost use Rattle.walsh.specs.Answers.{inputsOf, firstOutside, screenOf};
 ghost use Rattle.walsh.specs.Steps.{anyOutside};
 
