@@ -1,20 +1,46 @@
-//! The stored cases: texts with the reports due on them, in one file that a
-//! program can read where no second implementation is at hand. A case is a head
-//! of 12 bytes, `TTTTT,RRRRR` and a line end (the lengths of text and report,
-//! zeros in front), then the text, then the report.
+//! The stored cases: every call with what is due, in one file that a program
+//! can read where no second implementation is at hand. A case is a head of 54
+//! bytes, `CALL,TTTTT,LLLLL,AAAAA,BBBBB,RRRRR,WWWWW,DDDDD` and a line end: the
+//! call's word, filled up with spaces to 11 bytes, then with zeros in front how
+//! many bytes its text has, how many numbers its list, its first and its second
+//! arguments, how many numbers (a report: bytes) and how many working numbers
+//! are lent, how many bytes are due. Then come the text, the list and the
+//! arguments (each number a sign, ten digits, and a comma or a line end), and
+//! what is due; `crates/vectors/src/main.rt` says what that is for each call.
 
-use crate::circuits::{
-    largest_report, near_labels, with_line, worst_search, Draft, Sizes, Sketch, DAMAGES, LISTING,
-    SILENT_FAULT, STUCK_INNER_LINE, STUCK_INPUTS, TWO_OUTPUTS, TWO_STUCK_INPUTS,
-};
-use crate::netlist::{parse, TEXT_LIMIT};
+mod examples;
+mod lists;
+mod texts;
+mod uses;
+
+use crate::netlist;
 use crate::outcomes::answer;
-use crate::plan::{plan, CAP_LIMIT, WORKING_NUMBERS};
+use crate::plan::{self, CAP_LIMIT, WORKING_NUMBERS};
 use crate::random::Random;
-use crate::report::{report, REPORT_ROOM};
+use crate::reading::{self, Reading, Whole};
+use crate::report::{self, REPORT_ROOM};
+use crate::walsh::{self, Refusal};
 use std::path::{Path, PathBuf};
 
 const SEED: u64 = 0x5645_4354_4f52_5300;
+
+/// What stands in a lent result before the call; no call writes it.
+const BLANK: i32 = -99_999_999;
+
+/// A call with its arguments, and what is due.
+#[derive(Clone, Debug, Default)]
+pub struct Case {
+    pub call: &'static str,
+    pub text: Vec<u8>,
+    pub list: Vec<i32>,
+    pub first: Vec<u32>,
+    pub second: Vec<u32>,
+    pub room: usize,
+    pub working: usize,
+    pub due: Vec<u8>,
+    /// The refusal's number, 0 where the call is done: no part of the file.
+    pub number: u32,
+}
 
 /// Where the cases are stored.
 pub fn path() -> PathBuf {
@@ -23,172 +49,246 @@ pub fn path() -> PathBuf {
 
 /// The file as it is due.
 pub fn stored() -> Vec<u8> {
-    let mut file = Vec::new();
-    for text in texts() {
-        let report = report(&text, REPORT_ROOM, WORKING_NUMBERS).expect("room enough");
-        file.extend(format!("{:05},{:05}\n", text.len(), report.len()).bytes());
-        file.extend(text);
-        file.extend(report);
+    cases().iter().flat_map(Case::bytes).collect()
+}
+
+/// All cases, the paper's examples first.
+pub fn cases() -> Vec<Case> {
+    let texts = texts::texts(&mut Random::new(SEED));
+    let mut random = Random::new(SEED + 1);
+    let mut cases = examples::cases();
+    let reports = texts.iter();
+    cases.extend(reports.map(|text| Case::report(text, REPORT_ROOM, WORKING_NUMBERS)));
+    cases.extend(lists::cases(&mut random));
+    cases.extend(uses::cases(&mut random, &texts));
+    cases
+}
+
+/// A line of an answer.
+fn line(word: &str, numbers: impl IntoIterator<Item = i64>) -> String {
+    let mut line = word.to_string();
+    for number in numbers {
+        line += &format!(",{number}");
     }
-    file
+    line + "\n"
 }
 
-fn texts() -> Vec<Vec<u8>> {
-    let mut texts = chosen_texts();
-    let mut random = Random::new(SEED);
-    for inputs in 1..=8 {
-        texts.extend(drawn_texts(&mut random, inputs));
-        texts.extend(texts_by_outcome(&mut random, inputs));
-    }
-    texts.extend(heavy_texts(&mut random));
-    texts.extend(damaged_texts(&mut random));
-    texts
+/// Number and place.
+fn refusal_numbers<T>(result: &Result<T, Refusal>) -> Vec<i64> {
+    let answer = answer(result);
+    vec![i64::from(answer.number), answer.place as i64]
 }
 
-/// The paper's texts, and those at a limit.
-fn chosen_texts() -> Vec<Vec<u8>> {
-    let listing = LISTING.as_bytes();
-    let padded = |length| {
-        let mut text = listing.to_vec();
-        text.resize(length, b'\n');
-        text
-    };
-    // Rows of 45, and of 60 under the second fault: sums of five digits.
-    let always = format!(
-        "circuit,8,2,4,2,1\ngate,xnor,1,1\ngate,xor,1,1\n{}fault,9,0\nfault,10,1\n",
-        "output,9,15\n".repeat(3) + "output,10,15\n"
-    );
-    let mut texts: Vec<Vec<u8>> = [
-        LISTING,
-        STUCK_INPUTS,
-        TWO_STUCK_INPUTS,
-        STUCK_INNER_LINE,
-        SILENT_FAULT,
-        TWO_OUTPUTS,
-        &always,
-        "",
-        "\n",
-    ]
-    .map(|text| text.as_bytes().to_vec())
-    .into();
-    texts.extend([
-        with_line(TWO_OUTPUTS, 1, "circuit,2,4,2,2,2"),
-        with_line(LISTING, 1, "circuit,8,4,1,2,2"),
-        with_line(LISTING, 1, "circuit,9,4,1,2,2"),
-        listing[..listing.len() - 1].to_vec(),
-        padded(listing.len() + 1),
-        padded(TEXT_LIMIT),
-        padded(TEXT_LIMIT + 1),
-        largest_report().text(),
-        worst_search().text(),
-    ]);
-    texts
-}
-
-/// Circuits as they are drawn, and without their silent faults; of the
-/// largest sizes too.
-fn drawn_texts(random: &mut Random, inputs: usize) -> Vec<Vec<u8>> {
-    let mut texts = Vec::new();
-    while texts.len() < 16 {
-        let drawn = Sizes {
-            inputs,
-            ..Sizes::draw(random)
-        };
-        let largest = Sizes {
-            inputs,
-            ..Sizes::LARGEST
-        };
-        match texts.len() {
-            0..4 => texts.push(Draft::draw(random, drawn).text()),
-            4..13 => {
-                let draft = Draft::draw(random, drawn).without_silent();
-                texts.extend(draft.map(|draft| draft.text()));
-            }
-            _ => {
-                // Again as many faults as there can be.
-                let draft = Draft::draw(random, largest);
-                let changing = draft.changing_faults();
-                let faults: Vec<_> = changing.into_iter().cycle().take(largest.faults).collect();
-                if !faults.is_empty() {
-                    texts.push(draft.with_faults(&faults, CAP_LIMIT).text());
-                }
+impl Case {
+    fn bytes(&self) -> Vec<u8> {
+        let sizes = [
+            self.text.len(),
+            self.list.len(),
+            self.first.len(),
+            self.second.len(),
+            self.room,
+            self.working,
+            self.due.len(),
+        ];
+        let mut head = format!("{:11}", self.call);
+        for size in sizes {
+            assert!(size < 100_000, "{size} has more than five digits");
+            head += &format!(",{size:05}");
+        }
+        head += "\n";
+        let mut numbers = String::new();
+        let list: Vec<i64> = self.list.iter().map(|&z| z.into()).collect();
+        let [first, second] =
+            [&self.first, &self.second].map(|some| some.iter().map(|&n| n.into()).collect());
+        for some in [list, first, second] {
+            let fields: Vec<String> = some.iter().map(|z: &i64| format!("{z:+011}")).collect();
+            if !fields.is_empty() {
+                numbers += &(fields.join(",") + "\n");
             }
         }
+        [head.as_bytes(), &self.text, numbers.as_bytes(), &self.due].concat()
     }
-    texts
-}
 
-/// Circuits of the highest weights whose sum of all rows has five digits.
-fn heavy_texts(random: &mut Random) -> Vec<Vec<u8>> {
-    let mut texts = Vec::new();
-    while texts.len() < 6 {
-        let mut draft = Draft::draw(random, Sizes::LARGEST);
-        for line in &mut draft.lines {
-            if line[0] == "output" {
-                line[2] = "15".into();
-            }
-        }
-        let rows = parse(&draft.text()).and_then(|netlist| netlist.rows(0));
-        if rows.is_ok_and(|rows| rows.iter().sum::<i32>() >= 10_000) {
-            texts.extend(draft.without_silent().map(|draft| draft.text()));
+    fn due(self, number: u32, due: impl Into<Vec<u8>>) -> Case {
+        let due = due.into();
+        Case {
+            number,
+            due,
+            ..self
         }
     }
-    texts
-}
 
-/// Circuits of parities: plans of every size, and circuits without a plan.
-fn texts_by_outcome(random: &mut Random, inputs: usize) -> Vec<Vec<u8>> {
-    let mut texts = Vec::new();
-    for count in 1..=CAP_LIMIT.min(1 << inputs) {
-        let labels = near_labels(random, inputs, count);
-        let weights: Vec<usize> = (0..count).map(|_| 1 + random.below(15)).collect();
-        let sketch = Sketch::complemented(inputs, &labels, &weights);
-        texts.push(sketch.draft(count).text());
-        let sketch = Sketch::paired(inputs, &labels, weights[0]);
-        texts.push(sketch.draft(CAP_LIMIT).text());
-        if count > 1 {
-            texts.push(sketch.draft(count - 1).text());
-        }
+    /// What is due of a call that writes a list into a lent result.
+    fn lent(self, room: usize, result: Result<Vec<i32>, Refusal>) -> Case {
+        let mut left = vec![BLANK; room];
+        let written = result.as_deref().unwrap_or_default();
+        left[..written.len()].copy_from_slice(written);
+        let due = line("answer", refusal_numbers(&result))
+            + &line("left", left.into_iter().map(i64::from));
+        Case { room, ..self }.due(answer(&result).number, due)
     }
-    let mut wanted = [4; CAP_LIMIT + 1];
-    for _ in 0..80 {
-        // Without a plan the second implementation tries every set, which
-        // takes long for four of many labels.
-        let cap = 1 + random.below(if inputs < 7 { 4 } else { 3 });
-        let sketch = Sketch::draw(random, inputs).draft(cap);
-        let Some(draft) = sketch.without_silent() else {
-            continue;
+
+    pub fn coefficient(rows: &[i32], label: u32) -> Case {
+        let result = walsh::coefficient(rows, label);
+        let mut numbers = refusal_numbers(&result);
+        numbers.push(result.unwrap_or_default().into());
+        Case {
+            call: "coefficient",
+            list: rows.to_vec(),
+            first: vec![label],
+            ..Case::default()
+        }
+        .due(answer(&result).number, line("answer", numbers))
+    }
+
+    pub fn spectrum(rows: &[i32], room: usize) -> Case {
+        Case {
+            call: "spectrum",
+            list: rows.to_vec(),
+            ..Case::default()
+        }
+        .lent(room, walsh::spectrum(rows, room))
+    }
+
+    pub fn rows(coefficients: &[i32], room: usize) -> Case {
+        Case {
+            call: "rows",
+            list: coefficients.to_vec(),
+            ..Case::default()
+        }
+        .lent(room, walsh::rows(coefficients, room))
+    }
+
+    pub fn stuck(coefficients: &[i32], inputs: &[u32], values: &[u32], room: usize) -> Case {
+        Case {
+            call: "stuck",
+            list: coefficients.to_vec(),
+            first: inputs.to_vec(),
+            second: values.to_vec(),
+            ..Case::default()
+        }
+        .lent(room, walsh::stuck(coefficients, inputs, values, room))
+    }
+
+    pub fn opened(coefficients: &[i32], values: &[u32], room: usize) -> Case {
+        Case {
+            call: "opened",
+            list: coefficients.to_vec(),
+            first: values.to_vec(),
+            ..Case::default()
+        }
+        .lent(room, walsh::opened(coefficients, values, room))
+    }
+
+    pub fn circuit(text: &[u8], fault: u32, room: usize) -> Case {
+        Case {
+            call: "circuit",
+            text: text.to_vec(),
+            first: vec![fault],
+            ..Case::default()
+        }
+        .lent(room, netlist::circuit(text, fault, room))
+    }
+
+    pub fn plan(text: &[u8], working: usize) -> Case {
+        let result = plan::plan(text, working);
+        let number = answer(&result).number;
+        let mut numbers = refusal_numbers(&result);
+        let mut labels = result.unwrap_or_default();
+        numbers.push(labels.len() as i64);
+        labels.resize(CAP_LIMIT, 0);
+        numbers.extend(labels.into_iter().map(|label| label as i64));
+        Case {
+            call: "plan",
+            text: text.to_vec(),
+            working,
+            ..Case::default()
+        }
+        .due(number, line("answer", numbers))
+    }
+
+    pub fn report(text: &[u8], room: usize, working: usize) -> Case {
+        let (number, due) = match report::report(text, room, working) {
+            Ok(report) => (0, report),
+            Err(refusal) => (refusal.number, Vec::new()),
         };
-        let text = draft.text();
-        let size = plan(&text, WORKING_NUMBERS).map_or(0, |labels| labels.len());
-        if wanted[size] > 0 {
-            wanted[size] -= 1;
-            texts.push(text);
+        Case {
+            call: "report",
+            text: text.to_vec(),
+            room,
+            working,
+            ..Case::default()
         }
+        .due(number, due)
     }
-    texts
+
+    pub fn reading(text: &[u8], mask: u32, values: u32) -> Case {
+        let (refusal, kind, fixed) = match reading::reading(text, mask, values) {
+            Reading::PlainSyndrome { .. } => (Ok(()), 1, 0),
+            Reading::WeightedSum { .. } => (Ok(()), 2, 0),
+            Reading::Constrained { fixed, .. } => (Ok(()), 3, fixed.into()),
+            Reading::Refused(refusal) => (Err(refusal), 0, 0),
+        };
+        let mut numbers = refusal_numbers(&refusal);
+        numbers.extend([kind, fixed]);
+        let [sum] = sums(text, refusal, [0], mask, values);
+        Case {
+            call: "reading",
+            text: text.to_vec(),
+            list: vec![sum.0],
+            first: vec![mask, values],
+            second: vec![sum.1],
+            ..Case::default()
+        }
+        .due(answer(&refusal).number, line("answer", numbers))
+    }
+
+    pub fn pair(text: &[u8], fault: u32, mask: u32, values: u32) -> Case {
+        let refusal = reading::pair(text, fault, mask, values).map(|_| ());
+        let [sound, faulty] = sums(text, refusal, [0, fault], mask, values);
+        Case {
+            call: "pair",
+            text: text.to_vec(),
+            list: vec![sound.0, faulty.0, sound.0 - faulty.0],
+            first: vec![fault, mask, values],
+            second: vec![sound.1],
+            ..Case::default()
+        }
+        .due(
+            answer(&refusal).number,
+            line("answer", refusal_numbers(&refusal)),
+        )
+    }
+
+    pub fn field(text: &[u8], number: u32) -> Case {
+        let (start, length) = netlist::field(text, number as usize);
+        Case {
+            call: "field",
+            text: text.to_vec(),
+            first: vec![number],
+            second: vec![start as u32],
+            ..Case::default()
+        }
+        .due(0, &text[start..start + length])
+    }
 }
 
-/// Damaged texts, some for each way in which lines are refused.
-fn damaged_texts(random: &mut Random) -> Vec<Vec<u8>> {
-    let mut texts = Vec::new();
-    let mut wanted = [0, 0, 14, 12, 12, 12, 12, 12];
-    for damage in DAMAGES.iter().cycle() {
-        let sizes = Sizes {
-            gates: random.below(8),
-            faults: 1 + random.below(8),
-            ..Sizes::draw(random)
-        };
-        let draft = Draft::draw(random, sizes);
-        let text = (damage.apply)(random, &draft);
-        let number = answer(&parse(&text)).number as usize;
-        if wanted[number] > 0 {
-            wanted[number] -= 1;
-            texts.push(text);
-        }
-        if wanted.iter().all(|&left| left == 0) {
-            break;
-        }
+/// The whole sums under these faults with their count; 0 of 1 with a refusal:
+/// "readings returned with a refusal are 0".
+fn sums<const N: usize>(
+    text: &[u8],
+    refusal: Result<(), Refusal>,
+    faults: [u32; N],
+    mask: u32,
+    values: u32,
+) -> [(i32, u32); N] {
+    if refusal.is_err() {
+        return [(0, 1); N];
     }
-    texts
+    let netlist = netlist::parse(text).expect("a good circuit");
+    faults.map(|fault| {
+        let rows = netlist.rows(fault).expect("a fault of the circuit");
+        let whole = Whole::of(&rows, mask, values);
+        (whole.sum as i32, whole.count as u32)
+    })
 }

@@ -14,7 +14,6 @@ use reference::outcomes::{answer, Outcomes};
 use reference::plan::{self, Spectra, CAP_LIMIT, WORKING_NUMBERS};
 use reference::random::Random;
 use reference::report::{self, REPORT_ROOM};
-use reference::vectors;
 use reference::walsh::Refusal;
 use std::collections::BTreeSet;
 
@@ -838,80 +837,4 @@ fn reports_agree_with_the_plan_and_the_circuit_call() {
         behind > 500,
         "faults not covered by the first label: {behind}"
     );
-}
-
-// The stored cases.
-
-/// The cases of a file: text and report.
-fn stored_cases(file: &[u8]) -> Vec<(&[u8], &[u8])> {
-    let mut cases = Vec::new();
-    let mut rest = file;
-    while !rest.is_empty() {
-        let (head, behind) = rest.split_at(12);
-        let head = std::str::from_utf8(head).expect("a head");
-        assert_eq!((&head[5..6], &head[11..]), (",", "\n"));
-        let lengths = [&head[..5], &head[6..11]].map(|digits| digits.parse().expect("a length"));
-        let (text, behind) = behind.split_at(lengths[0]);
-        let (report, behind) = behind.split_at(lengths[1]);
-        cases.push((text, report));
-        rest = behind;
-    }
-    cases
-}
-
-#[test]
-fn stored_cases_are_those_of_today() {
-    let file = std::fs::read(vectors::path()).expect("the stored cases");
-    assert!(
-        file == vectors::stored(),
-        "run `cargo run --release --offline --locked --bin vectors`"
-    );
-}
-
-#[test]
-fn stored_cases_are_of_every_kind() {
-    let file = std::fs::read(vectors::path()).expect("the stored cases");
-    assert!(file.len() < 400_000, "{} bytes", file.len());
-    let cases = stored_cases(&file);
-    assert!((380..480).contains(&cases.len()), "{} cases", cases.len());
-    assert_eq!(cases[0].0, LISTING.as_bytes());
-    let mut outcomes = Outcomes::default();
-    let mut sizes = [0; CAP_LIMIT + 1];
-    let mut inputs = [0; 9];
-    let (mut many_faults, mut many_gates, mut negative, mut five_digits) = (0, 0, 0, 0);
-    for &(text, report) in &cases {
-        let report = library_matches(text, report);
-        outcomes.note(reported_number(report.as_bytes()));
-        let Some(plan) = report.strip_prefix("plan,") else {
-            continue;
-        };
-        sizes[usize::from(plan.as_bytes()[0] - b'0')] += 1;
-        let netlist = netlist::parse(text).expect("a good circuit");
-        inputs[netlist.inputs] += 1;
-        many_faults += usize::from(netlist.faults.len() == 32);
-        many_gates += usize::from(netlist.gates.len() == 48);
-        for line in report.lines() {
-            let value = line.rsplit(',').next().expect("a field");
-            negative += usize::from(value.starts_with('-'));
-            five_digits += usize::from(value.len() == 5 && !value.starts_with('-'));
-        }
-    }
-    let mut least: Vec<(u32, usize)> = (2..=7).map(|number| (number, 10)).collect();
-    least.extend([(0, 200), (1, 1), (13, 20), (14, 30)]);
-    outcomes.assert_seen(&least);
-    assert!(sizes[1..].iter().all(|&count| count >= 20), "{sizes:?}");
-    assert!(inputs[1..].iter().all(|&count| count >= 20), "{inputs:?}");
-    assert!(many_faults >= 10, "32 faults: {many_faults}");
-    assert!(many_gates >= 10, "48 gates: {many_gates}");
-    assert!(negative >= 200, "negative coefficients: {negative}");
-    assert!(five_digits >= 20, "five digits: {five_digits}");
-    let lengths = |length| cases.iter().filter(|case| case.0.len() == length).count();
-    assert_eq!((lengths(0), lengths(TEXT_LIMIT + 1)), (1, 1));
-}
-
-/// The library's report on a stored text, which is the stored one.
-fn library_matches(text: &[u8], report: &[u8]) -> String {
-    let found = library_report(text);
-    assert_eq!(found.as_bytes(), report, "{}", Shown(text));
-    found
 }

@@ -1,77 +1,176 @@
-// Holds the report call to stored cases that the second implementation (reference/) made. They come on standard input, one behind the other: a
-// head of 12 bytes, `TTTTT,RRRRR` and 0A, with the lengths of a text and of its report, then the text, then the report.
+// Holds every call of document 01 to stored cases that the second implementation (reference/) made. They come on standard input, one behind the
+// other. A case has a head of 54 bytes, `CALL,TTTTT,LLLLL,AAAAA,BBBBB,RRRRR,WWWWW,DDDDD` and 0A: the call's word, filled up with spaces to 11 bytes;
+// how many bytes its text has, how many numbers its list, its first and its second arguments; how many numbers (a report: bytes) and how many
+// working numbers are lent; how many bytes are due. Then come the text, the list, the arguments (each number a sign, ten digits, and a comma or 0A)
+// and what is due:
+//
+//     call         list          first                second  due
+//     coefficient  rows          label                        `answer,NUMBER,PLACE,COEFFICIENT`
+//     spectrum     rows                                       `answer,NUMBER,PLACE` and, as in the next four, `left` with the whole lent
+//     rows         coefficients                               result afterwards; before, it held -99999999 throughout
+//     stuck        coefficients  inputs               values
+//     opened       coefficients  values
+//     circuit                    fault
+//     plan                                                    `answer,NUMBER,PLACE,SIZE` and four labels
+//     report                                                  the report; nothing where the number is 8
+//     reading      sum           mask, values         count   `answer,NUMBER,PLACE,KIND,FIXED`; the value is sum / count
+//     pair         three sums    fault, mask, values  count   `answer,NUMBER,PLACE`; the readings are sums / count
+//     field                      number               start   the field
+//
+// A case whose head is damaged or that is cut differs.
+mod heads;
+mod lines;
+mod lists;
+mod numbers;
+mod texts;
+
+use heads::Call;
+use heads::Head;
 use libc::STDIN_FILENO;
 use libc::STDOUT_FILENO;
 ghost use Prim.Native.Nat.{_≤_};
 
-fn digit(b: u8) -> usize
-    ensures { λ r. ⌜ r ≤ 9 ⌝ }
-{
-    if b < 48 {
+// The sums of a pair.
+fn three(list: &[i32]) -> [i32; 3] {
+    if list.len() != 3 {
+        return [0, 0, 0];
+    }
+    [list[0], list[1], list[2]]
+}
+
+// The sum of a reading.
+fn one(list: &[i32]) -> i32 {
+    if list.len() != 1 {
         return 0;
     }
-    if 57 < b {
+    list[0]
+}
+
+// Argument i, from 0.
+fn argument(arguments: &[u32], i: usize) -> u32 {
+    if arguments.len() <= i {
         return 0;
     }
-    (b - 48) as usize
+    arguments[i]
 }
 
-// The number that the five digits from `at` on make.
-fn length_at(head: &[u8; 12], at: usize) -> usize
-    requires { ⌜ at ≤ 6 ⌝ }
-{
-    digit(head[at]) * 10000
-        + digit(head[at + 1]) * 1000
-        + digit(head[at + 2]) * 100
-        + digit(head[at + 3]) * 10
-        + digit(head[at + 4])
-}
-
-// Whether the report on the text is what is due.
-fn reports(text: &[u8], due: &[u8], out: &mut [u8], work: &mut [u32]) -> bool {
-    let r = report::report(text, out, work);
-    let bytes = r.bytes;
-    if r.number != 0 {
-        return false;
-    }
-    if out.len() < bytes {
-        return false;
-    }
-    text::same(&out[..bytes], due)
-}
-
-// Whether there was enough input to fill the buffer.
-fn fill(buf: &mut [u8]) -> bool {
-    io::read_full(STDIN_FILENO, buf) == buf.len()
-}
-
-// Reads a text and its report, and tries the call on them.
-fn case_holds(text: &mut [u8], due: &mut [u8], out: &mut [u8], work: &mut [u32]) -> bool {
-    if !fill(text) {
-        return false;
-    }
-    if !fill(due) {
-        return false;
-    }
-    reports(text, due, out, work)
-}
-
-// The same with a text of t bytes and a report of d.
-fn sized_case_holds(
-    t: usize,
-    d: usize,
-    text: &mut [u8],
-    due: &mut [u8],
-    out: &mut [u8],
-    work: &mut [u32],
+// Whether the call's answer is what is due.
+fn call_holds(
+    h: Head,
+    text: &[u8],
+    list: &[i32],
+    first: &[u32],
+    second: &[u32],
+    due: &[u8],
 ) -> bool {
-    if text.len() < t {
+    let call = h.call;
+    let x = argument(first, 0);
+    let y = argument(first, 1);
+    let z = argument(first, 2);
+    let last = argument(second, 0);
+    match call {
+        Call::Unknown => false,
+        Call::Coefficient => lists::coefficient_holds(list, x, due),
+        Call::Plan => texts::plan_holds(text, h.work, due),
+        Call::Report => texts::report_holds(text, h.room, h.work, due),
+        Call::Reading => texts::reading_holds(text, x, y, one(list), last, due),
+        Call::Pair => texts::pair_holds(text, x, y, z, three(list), last, due),
+        Call::Field => texts::field_holds(text, x as usize, last as usize, due),
+        _ => lists::lent_holds(call, text, list, first, second, x, h.room, due),
+    }
+}
+
+fn arguments_hold(
+    h: Head,
+    text: &[u8],
+    list: &[i32],
+    firsts: &[u8],
+    first: &mut [u32],
+    seconds: &[u8],
+    second: &mut [u32],
+    due: &[u8],
+) -> bool {
+    if !numbers::naturals(firsts, first) {
         return false;
     }
-    if due.len() < d {
+    if !numbers::naturals(seconds, second) {
         return false;
     }
-    case_holds(&mut text[..t], &mut due[..d], out, work)
+    call_holds(h, text, list, first, second, due)
+}
+
+// The arguments and what is due are in `rest`.
+fn rest_holds(h: Head, text: &[u8], list: &[i32], rest: &[u8]) -> bool {
+    let a = h.first;
+    let b = h.second;
+    if 4 < a {
+        return false;
+    }
+    if 4 < b {
+        return false;
+    }
+    let next = 12 * a;
+    let end = next + 12 * b;
+    if rest.len() < end {
+        return false;
+    }
+    let mut first = [0u32; 4];
+    let mut second = [0u32; 4];
+    arguments_hold(
+        h,
+        text,
+        list,
+        &rest[..next],
+        &mut first[..a],
+        &rest[next..end],
+        &mut second[..b],
+        &rest[end..],
+    )
+}
+
+fn list_holds(h: Head, text: &[u8], numbers: &[u8], list: &mut [i32], rest: &[u8]) -> bool {
+    if !numbers::integers(numbers, list) {
+        return false;
+    }
+    rest_holds(h, text, list, rest)
+}
+
+// Everything behind the text is in `rest`.
+fn numbers_hold(h: Head, text: &[u8], rest: &[u8]) -> bool {
+    let l = h.list;
+    if 2056 < l {
+        return false;
+    }
+    let at = 12 * l;
+    if rest.len() < at {
+        return false;
+    }
+    let mut list = [0i32; 2056];
+    list_holds(h, text, &rest[..at], &mut list[..l], &rest[at..])
+}
+
+fn case_holds(h: Head, case: &[u8]) -> bool {
+    let t = h.text;
+    if !heads::is_right(h) {
+        return false;
+    }
+    if case.len() < t {
+        return false;
+    }
+    numbers_hold(h, &case[..t], &case[t..])
+}
+
+// Reads the case that the head says, and tries it.
+fn next_holds(head: &[u8; 54], space: &mut [u8]) -> bool {
+    let h = heads::read(head);
+    let size = h.text + 12 * (h.list + h.first + h.second) + h.due;
+    if space.len() < size {
+        return false;
+    }
+    if io::read_full(STDIN_FILENO, &mut space[..size]) != size {
+        return false;
+    }
+    case_holds(h, &space[..size])
 }
 
 // How many cases came, and how many of them do not hold.
@@ -86,30 +185,23 @@ fn one_unless(b: bool) -> u64
     if b { 0 } else { 1 }
 }
 
-fn try_all(text: &mut [u8], due: &mut [u8], out: &mut [u8], work: &mut [u32]) -> Tally {
+fn try_all(space: &mut [u8]) -> Tally {
     let mut cases: u64 = 0;
     let mut wrong: u64 = 0;
     while cases < 1000000 {
-        let mut head = [0u8; 12];
-        let got = io::read_full(STDIN_FILENO, &mut head);
-        if got == 0 {
+        let mut head = [0u8; 54];
+        if io::read_full(STDIN_FILENO, &mut head) == 0 {
             break;
         }
-        let t = length_at(&head, 0);
-        let d = length_at(&head, 6);
-        wrong += one_unless(sized_case_holds(t, d, text, due, out, work));
+        wrong += one_unless(next_holds(&head, space));
         cases += 1;
     }
     Tally { cases, wrong }
 }
 
 fn main() {
-    let mut text = [0u8; 16400];
-    let mut due = [0u8; 1024];
-    let mut out = [0u8; 1024];
-    // Noise: what the working numbers held before is of no account.
-    let mut work = [2779096485u32; 4608];
-    let t = try_all(&mut text, &mut due, &mut out, &mut work);
+    let mut space = [0u8; 67000];
+    let t = try_all(&mut space);
     io::print_decimal(STDOUT_FILENO, t.cases);
     io::write_all(STDOUT_FILENO, b" cases, ");
     io::print_decimal(STDOUT_FILENO, t.wrong);
