@@ -1,1 +1,2 @@
+pub mod CircuitTexts
 pub mod Examples

@@ -18,7 +18,7 @@ use borrow.Author.Tests.{ltb-true, leb-true, eqb-true, lt-leb, eq-eqb}
 use Rattle.text.specs.Text.{before, after, lineEnd, indexOf, fieldOf, fieldCount, numberOf, wellFormed}
 use Rattle.integer.proofs.Bools.{both}
 use Rattle.text.proofs.Parts.{no-field}
-use Rattle.netlist.specs.Circuits.{Netlist, netlistOf, noGate, noOutput, sound}
+use Rattle.netlist.specs.Circuits.{Netlist, netlistOf, noGate, noOutput, free, sound}
 use Rattle.netlist.specs.Lines.{unless, refusalOf, inRange, valueAt, isLine, fits, faultWord, isHead, headFits, headRefusal, headOf, kindOf, secondFits, isGate, gateFits, readsBelow, gateRefusal, gateOf, isOutput, outputFits, outputRefusal, outputOf, isFault, pairInRange, pairFits, faultFits, linesExist, risesAt, linesRise, faultRefusal, stuckAt, faultOf}
 use Rattle.netlist.specs.Parsing.{Read, items, refused, lineRefusal, linesOf, nthGateRefusal, nthOutputRefusal, nthFaultRefusal, gatesIn, outputsIn, faultsIn, Parse, accepted, rejected, onRead, endOf, bodyOf, parseOf, meaning}
 use Rattle.netlist.specs.WellFormed.{SecondRight, GateRight, OutputRight, Above, FaultRight, WellFormed}
@@ -29,6 +29,7 @@ use Rattle.netlist.specs.declared.Kind.{Kind}
 use Rattle.netlist.specs.declared.Kind.the-variants.{And, Or, Nand, Nor, Xor, Xnor, Not}
 use Rattle.netlist.specs.declared.Output.{Output}
 use Rattle.netlist.specs.declared.Parsed.{Parsed}
+use Rattle.netlist.specs.declared.Stuck.{Stuck}
 
 -- tests joined
 
@@ -61,7 +62,7 @@ fits-range : (l : List ℕ) (k low high : ℕ) → fits l k low high ≡ true �
 unfolding fits
 fits-range l k low high e = range (valueAt l k) low high e
 
-absent : (l : List ℕ) (k : ℕ) → fieldCount l ≤ k → valueAt l k ≡ 0
+pub absent : (l : List ℕ) (k : ℕ) → fieldCount l ≤ k → valueAt l k ≡ 0
 unfolding valueAt numberOf wellFormed
 absent l k h = rw (no-field l k h .0)
 
@@ -145,12 +146,15 @@ module _ (l : List ℕ) (k : ℕ) (there : k < fieldCount l) where
   unfolding risesAt
   there-rises e = ltb-true (valueAt l (k - 2)) (valueAt l k) (second-holds (leb (fieldCount l) k) (ltb (valueAt l (k - 2)) (valueAt l k)) (lt-leb (fieldCount l) k there) e)
 
+pub free-line : {s : Stuck} → s ≡ free → s .line ≡ 0
+free-line e = ap (λ s. s .line) e
+
 above : (l : List ℕ) (k top : ℕ) → risesAt l k ≡ true → valueAt l k ≤ top → Above (valueAt l (k - 2)) top (stuckAt l k)
 unfolding stuckAt
 above l k top e h = go (decLe (fieldCount l) k)
   where
     go : Dec (fieldCount l ≤ k) → Above (valueAt l (k - 2)) top (stuckAt l k)
-    go (yes none) = inl (absent l k none)
+    go (yes none) = inl (rw (absent l k none, absent l (suc k) (omega arith)))
     go (no some) = inr (there-rises l k (lt-of-not-le some) e, h)
 
 pub fault-right : (top : ℕ) (l : List ℕ) → faultRefusal top l ≡ 0 → FaultRight top (faultOf l)

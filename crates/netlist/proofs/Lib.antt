@@ -1,5 +1,8 @@
 pub mod Acceptance
 pub mod Assembling
+pub mod FaultsWritten
 pub mod LineLoops
 pub mod LineTests
+pub mod LinesWritten
 pub mod Refusals
+pub mod Written

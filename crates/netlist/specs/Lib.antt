@@ -1,3 +1,4 @@
+pub mod CircuitText
 pub mod Circuits
 pub mod Lines
 pub mod Parsing

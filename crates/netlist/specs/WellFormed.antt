@@ -1,11 +1,11 @@
--- What an accepted circuit satisfies, for those who use it: document 01's ranges, "Each of A and B is below the gate's own line", and outputs
--- and faults that name lines of the circuit, a fault's lines rising.
+-- What accepted circuits satisfy, and no others (proofs/Written `accepted-exactly`): document 01's ranges, "Each of A and B is below the gate's own
+-- line", and outputs and faults that name lines of the circuit, a fault's lines rising.
 use Prim.Native.Nat.{ℕ, _+_, _<_, _≤_}
 use mathlib.Core.Logic.{_⊎_}
 use mathlib.Core.Path.{_≡_}
 use lib.IntN.{pos, natAbs}
 use lib.ListN.{length, getD}
-use Rattle.netlist.specs.Circuits.{Netlist, noGate, noOutput, sound}
+use Rattle.netlist.specs.Circuits.{Netlist, noGate, noOutput, free, sound}
 use Rattle.netlist.specs.declared.Fault.{Fault}
 use Rattle.netlist.specs.declared.Gate.{Gate}
 use Rattle.netlist.specs.declared.Kind.{Kind}
@@ -36,9 +36,9 @@ pub record OutputRight (top : ℕ) (o : Output) : Type 0 where
   pub weight-high : natAbs (o .weight) ≤ 15
   pub weight-whole : o .weight ≡ pos (natAbs (o .weight))
 
--- a pair that is not there, or one whose line is above `last`
+-- a pair that is not there is `free`; one that is there has a line above `last`
 abbrev pub Above : ℕ → ℕ → Stuck → Type 0
-Above last top s = (s .line ≡ 0) ⊎ ((last < s .line) × (s .line ≤ top))
+Above last top s = (s ≡ free) ⊎ ((last < s .line) × (s .line ≤ top))
 
 pub record FaultRight (top : ℕ) (f : Fault) : Type 0 where
   pub first-low : 1 ≤ f .first .line

@@ -11,6 +11,7 @@ use borrow.Author.Tests.{eq-eqb, ne-eqb}
 use Rattle.netlist.specs.Circuits.{sound}
 use Rattle.netlist.specs.WellFormed.{Above, FaultRight}
 use Rattle.netlist.specs.declared.Fault.{Fault}
+use Rattle.netlist.proofs.Acceptance.{free-line}
 use Rattle.simulation.specs.Rows.{stuckOr, shown}
 
 module _ (f : Fault) (v : Bool) where
@@ -43,10 +44,10 @@ pub pairs-show : (top : ℕ) (f : Fault) (v : Bool) → FaultRight top f → Pai
 pairs-show top f v r = record { first = first-shows f v; second = two (r .second); third = three (r .second) (r .third) }
   where
     two : Above (f .first .line) top (f .second) → 1 ≤ f .second .line → shown f (f .second .line) v ≡ f .second .value
-    two (inl none) h = absurd (omega arith)
+    two (inl none) h = absurd (omega (arith, free-line none))
     two (inr some) h = second-shows f v (λ e. absurd (omega (arith, some .0)))
 
     three : Above (f .first .line) top (f .second) → Above (f .second .line) top (f .third) → 1 ≤ f .third .line → shown f (f .third .line) v ≡ f .third .value
-    three s (inl none) h = absurd (omega arith)
-    three (inl gap) (inr some) h = absurd (omega (arith, r .no-gap gap))
+    three s (inl none) h = absurd (omega (arith, free-line none))
+    three (inl gap) (inr some) h = absurd (omega (arith, r .no-gap (free-line gap)))
     three (inr before) (inr some) h = third-shows f v (λ e. absurd (omega (arith, before .0, some .0))) (λ e. absurd (omega (arith, some .0)))

@@ -3,3 +3,4 @@ pub mod Parts
 pub mod ReadBack
 pub mod Words
 pub mod Writings
+pub mod WrittenLines

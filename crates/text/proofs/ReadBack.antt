@@ -1,6 +1,7 @@
 -- What is written in decimal is read as the same number:
 --   read-back        a number below 10,000, as a field of a text
 --   digits-read      of any size, by its digits
+--   digits-only      nothing but digits is written
 use mathlib.Core.Path.{_≡_, refl, ap, _∙_}
 use mathlib.Core.Bool.{Bool, true, false, not, cond, _&&_, _||_}
 use mathlib.Core.List.{List, [], _∷_, _++_}
@@ -51,6 +52,10 @@ by-most (suc most) n h = go (ltb n 10) refl (λ l. by-most most (n / 10) (tenth 
 pub digits-read : (n : ℕ) → decimalFrom 0 (decimalOf n) ≡ n
 unfolding decimalOf
 digits-read n = by-most (suc n) n (omega arith) .0
+
+pub digits-only : (n : ℕ) → digits (decimalOf n) ≡ true
+unfolding decimalOf
+digits-only n = by-most (suc n) n (omega arith) .1
 
 -- the first digit is 0 only in 0 itself
 lead : (most n : ℕ) → n < most → 1 ≤ n → (getD (decimalTo most n) 0 0 ≡ 48 → ⊥) × (1 ≤ length (decimalTo most n))

@@ -1,0 +1,58 @@
+-- The text of a circuit is that of document 01, byte for byte:
+--   listing-written    the listing
+--   gated-written      x1x2x3 + x4·not(x2x3), whose faults are of two pairs
+use mathlib.Core.Bool.{Bool, true, false}
+use mathlib.Core.Path.{_≡_, refl}
+use mathlib.Core.List.{[], _∷_}
+use Prim.Native.Nat.{ℕ}
+use lib.IntN.{pos}
+use Rattle.text.specs.Writing.{decimalTo, decimalOf, integerOf, gather, numberField, numbersOf, lineOf}
+use Rattle.netlist.specs.CircuitText.{headLine, kindWord, gateLine, outputLine, pairOf, faultLine, eachLine, textOf as circuitText}
+use Rattle.netlist.specs.Circuits.{Netlist, free}
+use Rattle.netlist.specs.declared.Fault.{Fault}
+use Rattle.netlist.specs.declared.Gate.{Gate}
+use Rattle.netlist.specs.declared.Kind.{Kind}
+use Rattle.netlist.specs.declared.Kind.the-variants.{And, Or, Not}
+use Rattle.netlist.specs.declared.Output.{Output}
+use Rattle.netlist.specs.declared.Stuck.{Stuck}
+use Rattle.examples.specs.Texts.{bytesOf, textOf, gatedText, listing}
+
+abbrev gate : Kind → ℕ → ℕ → Gate
+gate kind a b = record { kind = kind; a = a; b = b }
+
+abbrev output : ℕ → ℕ → Output
+output line weight = record { line = line; weight = pos weight }
+
+abbrev at : ℕ → Bool → Stuck
+at line value = record { line = line; value = value }
+
+abbrev fault : Stuck → Stuck → Fault
+fault first second = record { first = first; second = second; third = free }
+
+abbrev pub listingCircuit : Netlist
+listingCircuit =
+    record {
+      inputs = 3;
+      gates = gate Not 2 0 ∷ gate And 1 2 ∷ gate And 3 4 ∷ gate Or 5 6 ∷ [];
+      outputs = output 7 1 ∷ [];
+      faults = fault (at 2 false) free ∷ fault (at 2 true) free ∷ [];
+      cap = 2;
+    }
+
+abbrev pub gatedCircuit : Netlist
+gatedCircuit =
+    record {
+      inputs = 4;
+      gates = gate And 2 3 ∷ gate And 1 5 ∷ gate Not 5 0 ∷ gate And 4 7 ∷ gate Or 6 8 ∷ [];
+      outputs = output 9 1 ∷ [];
+      faults = fault (at 1 false) (at 2 false) ∷ fault (at 1 true) (at 2 false) ∷ fault (at 1 false) (at 2 true) ∷ fault (at 1 true) (at 2 true) ∷ [];
+      cap = 1;
+    }
+
+pub listing-written : circuitText listingCircuit ≡ listing
+unfolding circuitText headLine kindWord gateLine outputLine pairOf faultLine eachLine lineOf numbersOf numberField gather integerOf decimalOf decimalTo listing textOf bytesOf
+listing-written = refl
+
+pub gated-written : circuitText gatedCircuit ≡ gatedText
+unfolding circuitText headLine kindWord gateLine outputLine pairOf faultLine eachLine lineOf numbersOf numberField gather integerOf decimalOf decimalTo gatedText textOf bytesOf
+gated-written = refl

@@ -1,0 +1,54 @@
+-- The text of a circuit, written field by field (document 01, "The circuit text"):
+--   "Fields stand in fixed order, parted by commas, with no quoting. A line ends in one byte 0A hexadecimal, the last too." "The lines, in this order:"
+--   "`circuit,N,G,M,Q,K`: N inputs (1 to 8), G gates (0 to 48), M outputs (1 to 4), Q faults (1 to 32), cap K (1 to 4)."
+--   "G lines `gate,KIND,A,B`" "M lines `output,LINE,WEIGHT`" "Q lines `fault,LINE,VALUE`, with one to three LINE,VALUE pairs"
+use Prim.Native.Nat.{ℕ}
+use mathlib.Core.Bool.{cond}
+use mathlib.Core.List.{List, [], _∷_, _++_}
+use lib.Dec.{eqb}
+use lib.IntN.{ℤ, pos}
+use lib.ListN.{length, getD}
+use Rattle.text.specs.Text.{comma}
+use Rattle.text.specs.Writing.{gather, lineOf}
+use Rattle.netlist.specs.Circuits.{Netlist, noGate, noOutput, sound}
+use Rattle.netlist.specs.Lines.{circuitWord, gateWord, outputWord, faultWord, andWord, orWord, nandWord, norWord, xorWord, xnorWord, notWord}
+use Rattle.netlist.specs.declared.Fault.{Fault}
+use Rattle.netlist.specs.declared.Gate.{Gate}
+use Rattle.netlist.specs.declared.Kind.{Kind}
+use Rattle.netlist.specs.declared.Kind.the-variants.{And, Or, Nand, Nor, Xor, Xnor, Not}
+use Rattle.netlist.specs.declared.Output.{Output}
+use Rattle.netlist.specs.declared.Stuck.{Stuck}
+
+unfoldable pub headLine : Netlist → List ℕ
+headLine n =
+    lineOf circuitWord (pos (n .inputs) ∷ pos (length (n .gates)) ∷ pos (length (n .outputs)) ∷ pos (length (n .faults)) ∷ pos (n .cap) ∷ [])
+
+-- "KIND is `and`, `or`, `nand`, `nor`, `xor`, `xnor` or `not`"
+unfoldable pub kindWord : Kind → List ℕ
+kindWord And = andWord
+kindWord Or = orWord
+kindWord Nand = nandWord
+kindWord Nor = norWord
+kindWord Xor = xorWord
+kindWord Xnor = xnorWord
+kindWord Not = notWord
+
+unfoldable pub gateLine : Gate → List ℕ
+gateLine g = lineOf (gateWord ++ (comma ∷ kindWord (g .kind))) (pos (g .a) ∷ pos (g .b) ∷ [])
+
+unfoldable pub outputLine : Output → List ℕ
+outputLine o = lineOf outputWord (pos (o .line) ∷ o .weight ∷ [])
+
+-- LINE and VALUE; nothing for a pair that is not there, which names line 0
+unfoldable pub pairOf : Stuck → List ℤ
+pairOf s = cond (eqb (s .line) 0) [] (pos (s .line) ∷ pos (cond (s .value) 1 0) ∷ [])
+
+unfoldable pub faultLine : Fault → List ℕ
+faultLine f = lineOf faultWord (pairOf (f .first) ++ (pairOf (f .second) ++ pairOf (f .third)))
+
+-- a line for each item; `none` is what is read past the last
+unfoldable pub eachLine : {A : Type 0} → (A → List ℕ) → A → List A → List ℕ
+eachLine line none l = gather (λ i. line (getD l i none)) (length l)
+
+unfoldable pub textOf : Netlist → List ℕ
+textOf n = headLine n ++ (eachLine gateLine noGate (n .gates) ++ (eachLine outputLine noOutput (n .outputs) ++ eachLine faultLine sound (n .faults)))
