@@ -4,20 +4,20 @@
 --   difference-coefficient    at a label, the coefficient of the differences is the difference of the coefficients
 --   covers-difference         so it is not 0 exactly where the label covers the fault
 --   marks-are, marked-by      the masks with a bit added at such labels are the masks with the fault marked
---   filled, all-more          a loop that writes each place, at its end; a test of each place, one place more
+--   all-more                  a test of each place, one place more
 --   bit-more, bit-kept        one mask more, with the bit added or not
 --   mask-lt, bit-mask         a mask of q faults is below 2 ^ q, and its bit f is whether fault f passes
 --   no-masks, marked-more, masks-below    the masks of no fault and of one fault more, and their bound
 use mathlib.Core.Path.{_≡_, refl, sym, ap, ap₂, _∙_, subst}
 use mathlib.Core.Bool.{Bool, true, false, not, cond, _&&_, Bool·not-not}
-use mathlib.Core.List.{List, _++_, append-nil}
+use mathlib.Core.List.{List, _++_}
 use Prim.Native.Nat.{ℕ, zero, suc, _+_, _-_, _*_, _/_, _%_, _<_, _≤_, _^_}
 use native.Mathlib.Nat.{le-trans, add-zero, add-mul-div-right}
 use native.Mathlib.Numerals.{add-one}
 use native.Mathlib.Omega.{arith}
 use lib.Dec.{eqb}
 use lib.IntN.{ℤ, pos, negsuc, _-ℤ_, natAbs, +ℤ-idr}
-use lib.ListN.{length, getD, drop, set, replicate, length-replicate, getD-replicate, drop-of-length-le}
+use lib.ListN.{length, getD, drop, set, replicate, length-replicate, getD-replicate}
 use lib.Pow.{pow-pos, pow-add, high}
 use lib.Seq.{ext-getD, set-getD}
 use lib.Signed.{mag}
@@ -71,11 +71,6 @@ module _ (a b : ℤ) (fa : SFits w32 a) (fb : SFits w32 b) where
 
   pub less-none : eqb (ofZ w64 machine-less) 0 ≡ not (differ a b)
   less-none = word-zero machine-less less-fits ∙ ap (λ (z : ℤ). eqb (natAbs z) 0) (sub-is w64 a b (wide a fa) (wide b fb) room) ∙ sym (Bool·not-not (eqb (natAbs (a -ℤ b)) 0))
-
-pub filled : {A : Type 0} (f : ℕ → A) (d : List A) (i : ℕ) → i ≡ length d → tab i f ++ drop i d ≡ tab (length d) f
-filled {A = A} f d i e =
-    let h : length d ≤ i = omega arith in
-    ap (λ (l : List A). tab i f ++ l) (drop-of-length-le d h) ∙ append-nil (tab i f) ∙ ap (λ (n : ℕ). tab n f) e
 
 module _ (sound faulted : List ℤ) where
   pub length-differences : length (differences sound faulted) ≡ length sound

@@ -1,6 +1,6 @@
+pub mod Columns
 pub mod Equations
 pub mod LineValues
-pub mod Padding
 pub mod RowBounds
 pub mod Counts
 pub mod RowValues

@@ -1,8 +1,6 @@
 -- The lines of a circuit, one after the other:
 --   length-inputs, length-next, length-lines, lines-few    how many values there are
---   halved        the next input's bit is the lowest of half the number
---   input-turn    a loop that writes one input after the other: one turn
---   gate-turn     a loop that writes one gate after the other: one turn
+--   input-more, gates-more    one input more, one gate more
 --   fault-of      the fault of a number above 0 is read in the circuit's array
 use mathlib.Core.Path.{_≡_, refl, sym, ap, _∙_}
 use mathlib.Core.Bool.{Bool}
@@ -18,29 +16,18 @@ use Rattle.integer.specs.Tab.{tab}
 use Rattle.integer.proofs.Tabs.{length-tab}
 use Rattle.netlist.specs.Circuits.{netlistOf, Sized, faultAt, noGate, sound}
 use Rattle.simulation.specs.Rows.{gateValue, shown, inputShown, inputValues, reads, gateNext, gatesNext, lineValues}
-use Rattle.simulation.specs.Steps.{padded, slotOf}
 use Rattle.netlist.specs.declared.Circuit.{Circuit}
 use Rattle.netlist.specs.declared.Fault.{Fault}
 use Rattle.netlist.specs.declared.Gate.{Gate}
-use Rattle.simulation.proofs.Padding.{set-padded, reads-slot}
-
-pub halved : (x i : ℕ) → x / 2 ^ i / 2 ≡ x / 2 ^ (i + 1)
-halved x i = shr-shr x i 1
 
 module _ (f : Fault) (x : ℕ) where
   pub length-inputs : (n : ℕ) → length (inputValues f x n) ≡ n + 1
   unfolding inputValues
   length-inputs n = omega (arith, length-tab n (inputShown f x))
 
-  input-more : (i : ℕ) → inputValues f x i ++ (inputShown f x i ∷ []) ≡ inputValues f x (i + 1)
+  pub input-more : (i : ℕ) → inputValues f x i ++ (inputShown f x i ∷ []) ≡ inputValues f x (i + 1)
   unfolding inputValues tab
   input-more i = ap (inputValues f x) (sym (add-one i))
-
-  pub input-turn : (i : ℕ) {values : List Bool} → i < 57 → values ≡ padded (inputValues f x i)
-      → set values (i + 1) (inputShown f x i) ≡ padded (inputValues f x (i + 1))
-  input-turn i h is =
-      let n = length-inputs i in
-      rw is (set-padded (inputValues f x i) (inputShown f x i) (i + 1) (sym n) (omega arith) ∙ ap padded (input-more i))
 
 module _ (f : Fault) where
   gates-snoc : (l : List Bool) (gates : List Gate) (g : Gate) → gatesNext f l (gates ++ (g ∷ [])) ≡ gateNext f (gatesNext f l gates) g
@@ -57,21 +44,10 @@ module _ (f : Fault) where
   length-lines l [] = omega arith
   length-lines l (g ∷ gates) = omega (arith, length-lines (gateNext f l g) gates, length-next l g)
 
-  -- what a gate shows on its line, read as the code does: at the slots of an array
-  abbrev pub gateShown : List Bool → ℕ → Gate → Bool
-  gateShown values line g = shown f line (gateValue (g .kind) (reads values (slotOf (g .a))) (reads values (slotOf (g .b))))
-
-  pub gate-turn : (l : List Bool) (gates : List Gate) (j line : ℕ) {values : List Bool} → j < length gates → line ≡ length l + j → line < 58
-      → values ≡ padded (gatesNext f l (take j gates))
-      → set values line (gateShown values line (getD gates j noGate)) ≡ padded (gatesNext f l (take (j + 1) gates))
-  unfolding gateNext
-  gate-turn l gates j line h e room is =
-      let known = gatesNext f l (take j gates) in
-      let g = getD gates j noGate in
-      let n : length known ≡ line = length-lines l (take j gates) ∙ omega (arith, length-take-le j gates (omega arith)) in
-      rw (is, reads-slot known (g .a) (omega arith), reads-slot known (g .b) (omega arith), ← n)
-      (set-padded known _ (length known) refl (omega arith)
-      ∙ ap padded (sym (gates-snoc l (take j gates) g) ∙ rw (add-one j, take-suc gates j noGate h)))
+  -- with the gate at j of those in use
+  pub gates-more : (l : List Bool) (gates : List Gate) (j : ℕ) → j < length gates
+      → gateNext f (gatesNext f l (take j gates)) (getD gates j noGate) ≡ gatesNext f l (take (j + 1) gates)
+  gates-more l gates j h = sym (gates-snoc l (take j gates) (getD gates j noGate)) ∙ ap (gatesNext f l) (rw (add-one j, take-suc gates j noGate h))
 
 -- a circuit of the code has at most 56 lines, and there is index 0
 pub lines-few : (c : Circuit) (f : Fault) (x : ℕ) → Sized c → length (lineValues (netlistOf c) f x) ≤ 57

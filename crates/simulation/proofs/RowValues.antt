@@ -1,8 +1,7 @@
 -- The value of a row as the code adds it up, and the rows as it writes them:
 --   weight-small, weight-widens, weight-kept    a weight of 16 bits in 32
 --   sum-room, sum-more, sum-small    a loop that adds up terms within 32,768: one turn
---   row-of                 the sum of what the code reads is the row's value
---   rows-done              what a loop that writes row x at x has written at its end
+--   row-of, rows-read      the sum of what the code reads is the row's value; so are all of them
 --   rows-few               there are at most 256 rows
 use mathlib.Core.Path.{_≡_, sym, ap, _∙_, subst}
 use mathlib.Core.Bool.{Bool}
@@ -22,13 +21,14 @@ use Rattle.integer.specs.Tab.{tab}
 use Rattle.integer.proofs.Bounds.{natAbs-add, sfits-abs}
 use Rattle.integer.proofs.Machine.{widens, recast}
 use Rattle.integer.proofs.Sums.{sum-ext}
+use Rattle.integer.proofs.Tabs.{tab-ext}
 use Rattle.netlist.specs.Circuits.{Netlist, netlistOf, Sized, noOutput}
-use Rattle.simulation.specs.Rows.{weighed, outputTerm, lineValues, rowValue, rowsOf, reads}
-use Rattle.simulation.specs.Steps.{padded, slotOf}
+use Rattle.simulation.specs.Rows.{outputTerm, lineValues, rowValue, rowsOf}
+use Rattle.simulation.specs.Steps.{Columns, readTerm, readSum}
 use Rattle.netlist.specs.declared.Circuit.{Circuit}
 use Rattle.netlist.specs.declared.Fault.{Fault}
 use Rattle.netlist.specs.declared.Output.{Output}
-use Rattle.simulation.proofs.Padding.{reads-slot}
+use Rattle.simulation.proofs.Columns.{slot-shows}
 use Rattle.simulation.proofs.LineValues.{lines-few}
 
 module _ (z : ℤ) (fits : SFits w16 z) where
@@ -56,34 +56,27 @@ module _ (t : ℕ → ℤ) (k : ℕ) (z : ℤ) where
     pub sum-small : z ≡ t k → natAbs (sumTo (k + 1) t) ≤ (k + 1) * 32768
     sum-small e = subst (λ (y : ℤ). natAbs y ≤ (k + 1) * 32768) (sum-more e) (omega (arith, natAbs-add (sumTo k t) z))
 
--- the term of an output as the code reads it: at the line's slot of an array
-abbrev pub readTerm : List Bool → List Output → ℕ → ℤ
-readTerm values outputs k = weighed (reads values (slotOf (getD outputs k noOutput .line))) (getD outputs k noOutput .weight)
-
 -- the outputs in use stand at the front of their array
-read-term : (l : List Bool) (outputs : List Output) (m k : ℕ) {values : List Bool} → length l ≤ 57 → k < m → values ≡ padded l
-    → readTerm values outputs k ≡ outputTerm l (take m outputs) k
-read-term l outputs m k short h is = rw (is, reads-slot l (getD outputs k noOutput .line) short, getD-take m outputs k noOutput h)
-
-pub row-of : (c : Circuit) (f : Fault) (x : ℕ) {values : List Bool} → Sized c → c .head .outputs ≤ length (c .outputs)
-    → values ≡ padded (lineValues (netlistOf c) f x) → sumTo (c .head .outputs) (readTerm values (c .outputs)) ≡ rowValue (netlistOf c) f x
-unfolding rowValue netlistOf
-row-of c f x {values} s room is =
-    sum-ext (c .head .outputs) (readTerm values (c .outputs)) term (λ k h. read-term lines (c .outputs) (c .head .outputs) k (lines-few c f x s) h is)
-    ∙ ap (λ (m : ℕ). sumTo m term) (sym (length-take-le (c .head .outputs) (c .outputs) room))
+pub row-of : (c : Circuit) (f : Fault) (n x : ℕ) {values : List Bool} → Sized c → c .head .outputs ≤ length (c .outputs) → x < n
+    → Columns values n (lineValues (netlistOf c) f) → readSum values (c .outputs) (c .head .outputs) x ≡ rowValue (netlistOf c) f x
+unfolding readSum rowValue netlistOf
+row-of c f n x {values} s room h are =
+    sum-ext (c .head .outputs) (readTerm values (c .outputs) x) term same ∙ ap (λ (m : ℕ). sumTo m term) (sym (length-take-le (c .head .outputs) (c .outputs) room))
   where
-    lines : List Bool
-    lines = lineValues (netlistOf c) f x
-
     term : ℕ → ℤ
-    term = outputTerm lines (take (c .head .outputs) (c .outputs))
+    term = outputTerm (lineValues (netlistOf c) f x) (take (c .head .outputs) (c .outputs))
 
-module _ (n : Netlist) (f : Fault) (x : ℕ) (d : List ℤ) where
-  pub rows-done : x ≡ length d → length d ≡ 2 ^ n .inputs → tab x (rowValue n f) ++ drop x d ≡ rowsOf n f
-  unfolding rowsOf
-  rows-done e size =
-      let all : length d ≤ x = omega arith in
-      rw (drop-of-length-le d all, append-nil) (ap (λ (k : ℕ). tab k (rowValue n f)) (e ∙ size))
+    same : (k : ℕ) → k < c .head .outputs → readTerm values (c .outputs) x k ≡ term k
+    same k l =
+        rw (slot-shows n (lineValues (netlistOf c) f) are (getD (c .outputs) k noOutput .line) x h (lines-few c f x s), getD-take (c .head .outputs) (c .outputs) k noOutput l)
+
+-- what a loop that writes row x at x has written at its end
+pub rows-read : (c : Circuit) (f : Fault) (n : ℕ) {values : List Bool} → Sized c → c .head .outputs ≤ length (c .outputs) → n ≡ 2 ^ c .head .inputs
+    → Columns values n (lineValues (netlistOf c) f) → tab n (readSum values (c .outputs) (c .head .outputs)) ≡ rowsOf (netlistOf c) f
+unfolding rowsOf netlistOf
+rows-read c f n {values} s room e are =
+    tab-ext n (readSum values (c .outputs) (c .head .outputs)) (rowValue (netlistOf c) f) (λ x h. row-of c f n x s room h are)
+    ∙ ap (λ (k : ℕ). tab k (rowValue (netlistOf c) f)) e
 
 pub rows-few : (c : Circuit) → Sized c → 2 ^ c .head .inputs ≤ 256
 rows-few c s = pow-mono (s .inputs)

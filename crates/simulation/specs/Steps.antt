@@ -1,14 +1,55 @@
--- What private functions leave of line values:
---   padded    as many as there is room for, 58, those behind the last line false
---   slotOf    where a line is read in them: no circuit has a line 57
-use Prim.Native.Nat.{ℕ, _-_}
+-- What private functions leave of line values: a column of 256 values for each of 58 lines, one value a row.
+--   shownAt              what a line shows on a row
+--   seenAs               a value seen through a fault, by what is shown of 1 and of 0
+--   Columned             one column made by a rule, and everything else as it was
+--   inputRule, gateRule  the rule of an input's column, and of a gate's
+--   Columns              every line on the first rows, by the row's line values
+--   slotOf               where a line is read in them: no circuit has a line 57
+--   readTerm, readSum    an output's term and a row's value, as they are read there
+use Prim.Native.Nat.{ℕ, _+_, _*_, _≤_, _<_}
 use mathlib.Core.Bool.{Bool, false, cond}
-use mathlib.Core.List.{List, _++_}
+use mathlib.Core.List.{List}
+use mathlib.Core.Path.{_≡_}
 use lib.Dec.{ltb}
-use lib.ListN.{length, replicate}
+use lib.IntN.{ℤ}
+use lib.ListN.{getD}
+use Rattle.integer.specs.Sum.{sumTo}
+use Rattle.netlist.specs.Circuits.{noOutput}
+use Rattle.netlist.specs.declared.Fault.{Fault}
+use Rattle.netlist.specs.declared.Kind.{Kind}
+use Rattle.netlist.specs.declared.Output.{Output}
+use Rattle.simulation.specs.Rows.{gateValue, applied, inputValues, reads, weighed}
+use Rattle.simulation.specs.declared.Seen.{Seen}
 
-unfoldable pub padded : List Bool → List Bool
-padded l = l ++ replicate (58 - length l) false
+abbrev pub shownAt : List Bool → ℕ → ℕ → Bool
+shownAt values line x = getD values (line * 256 + x) false
+
+abbrev pub seenAs : Seen → Bool → Bool
+seenAs s v = cond v (s .one) (s .zero)
+
+-- the first n values of the line's column are new
+pub record Columned (before after : List Bool) (line n : ℕ) (rule : ℕ → Bool) : Type 0 where
+  pub made : (x : ℕ) → x < n → shownAt after line x ≡ rule x
+  pub kept : (i : ℕ) → (line * 256 ≤ i → i < line * 256 + n → ⊥) → getD after i false ≡ getD before i false
+
+abbrev pub inputRule : Seen → ℕ → ℕ → Bool
+inputRule s input x = seenAs s (applied x input)
+
+abbrev pub gateRule : List Bool → Seen → Kind → ℕ → ℕ → ℕ → Bool
+gateRule values s kind a b x = seenAs s (gateValue kind (shownAt values a x) (shownAt values b x))
+
+-- line values of the row x are `lines x`; a line behind the last shows 0
+pub record Columns (values : List Bool) (n : ℕ) (lines : ℕ → List Bool) : Type 0 where
+  pub each : (line x : ℕ) → line < 58 → x < n → shownAt values line x ≡ reads (lines x) line
+
+abbrev pub inputLines : Fault → ℕ → ℕ → List Bool
+inputLines f inputs x = inputValues f x inputs
 
 unfoldable pub slotOf : ℕ → ℕ
 slotOf line = cond (ltb line 57) line 57
+
+abbrev pub readTerm : List Bool → List Output → ℕ → ℕ → ℤ
+readTerm values outputs x k = weighed (shownAt values (slotOf (getD outputs k noOutput .line)) x) (getD outputs k noOutput .weight)
+
+unfoldable pub readSum : List Bool → List Output → ℕ → ℕ → ℤ
+readSum values outputs count x = sumTo count (readTerm values outputs x)

@@ -1,8 +1,8 @@
 -- The invariant: the sum holds the terms of the first k outputs, each within 32,768.
 use borrow.Author.Needs.{needs}
+use native.Mathlib.Omega.{arith}
 use mathlib.Core.Path.{_≡_, refl, ap, ap₂, _∙_}
 use Prim.Native.Nat.{ℕ, _+_, _*_, _-_, _^_, _≤_, _<_}
-use native.Mathlib.Omega.{arith}
 use lib.IntN.{ℤ, natAbs}
 use lib.ListN.{length, getD}
 use mir.Syntax.{w16, w32}
@@ -10,21 +10,20 @@ use mir.Val.{ofZ}
 use mir.ValLaws.{toZ-ofZ}
 use Rattle.integer.specs.Sum.{sumTo}
 use Rattle.integer.proofs.Machine.{reads as read-back, add-fits, add-is}
-use Rattle.netlist.specs.Circuits.{noOutput}
-use Rattle.simulation.specs.Rows.{reads, weighed}
 use Rattle.integer.proofs.Tabs.{length-mapped}
-use Rattle.simulation.proofs.RowValues.{readTerm, sum-room, sum-more, sum-small, row-of}
+use Rattle.netlist.specs.Circuits.{noOutput}
+use Rattle.simulation.specs.Rows.{weighed}
+use Rattle.simulation.specs.Steps.{shownAt, readTerm, readSum}
+use Rattle.simulation.proofs.RowValues.{sum-room, sum-more, sum-small}
 use Rattle.simulation.proofs.row_value.Statement.{statement}
 use Rattle.simulation.proofs.row_value.Tie as tie
 
 abbrev Inv-loop : tie.InvT-loop
-Inv-loop x c values count sum₀ k₀ sum k = (k ≤ count) × (length (c .outputs) ≡ 4) × (sum ≡ ofZ w32 (sumTo k (readTerm values (c .outputs)))) × (natAbs (sumTo k (readTerm values (c .outputs))) ≤ k * 32768)
+Inv-loop values count x outputs sum₀ k₀ sum k =
+    (k ≤ count) × (length outputs ≡ 4) × (sum ≡ ofZ w32 (sumTo k (readTerm values outputs x))) × (natAbs (sumTo k (readTerm values outputs x)) ≤ k * 32768)
 
 abbrev μ-loop : tie.MeasureT-loop
-μ-loop x c values count sum₀ k₀ sum k = count - k
-
-line-values-requires : tie.Need-line-values-requires Inv-loop μ-loop
-line-values-requires c κs = search needs
+μ-loop values count x outputs sum₀ k₀ sum k = count - k
 
 loop-holds : tie.Need-loop-holds Inv-loop μ-loop
 unfolding sumTo
@@ -33,14 +32,20 @@ loop-holds c = (search needs, search (needs, length-mapped), refl, search needs)
 mul-output : tie.Need-mul-output Inv-loop μ-loop
 mul-output c = search needs
 
-element-copy-out-output : tie.Need-element-copy-out-output Inv-loop μ-loop
-element-copy-out-output c = search needs
+array-copy-out-output : tie.Need-array-copy-out-output Inv-loop μ-loop
+array-copy-out-output c = search needs
 
 slot-requires : tie.Need-slot-requires Inv-loop μ-loop
 slot-requires c κs = search needs
 
-array-read-weigh : tie.Need-array-read-weigh Inv-loop μ-loop
-array-read-weigh c = omega (arith, c .slot .ensures .1)
+mul-at : tie.Need-mul-at Inv-loop μ-loop
+mul-at c = search needs
+
+add-weigh : tie.Need-add-weigh Inv-loop μ-loop
+add-weigh c = search needs
+
+shared-slice-read-weigh : tie.Need-shared-slice-read-weigh Inv-loop μ-loop
+shared-slice-read-weigh c = search needs
 
 weigh-requires : tie.Need-weigh-requires Inv-loop μ-loop
 weigh-requires c κs = search needs
@@ -48,19 +53,20 @@ weigh-requires c κs = search needs
 -- in a turn: the terms, the partial sum and the term that is added
 module _ (w : tie.After-weigh Inv-loop μ-loop) where
   abbrev L : tie.At-loop Inv-loop μ-loop
-  L = w .before .before .before .before .before
+  L = w .before .before .before .before .before .before
 
   abbrev t : ℕ → ℤ
-  t = readTerm (L .before .line-values .result) (L .before .before .args .t1 .outputs)
+  t = let a = L .before .before .args in readTerm (a .values .now) (a .t2) (a .x)
 
   room : natAbs (sumTo (L .loop .k) t) + natAbs (w .weigh .result) < 2 ^ 31
-  room = sum-room t (L .loop .k) (w .weigh .result) (L .loop .inv .3) (w .weigh .ensures .1) (omega (arith, L .before .before .pre .outputs))
+  room = sum-room t (L .loop .k) (w .weigh .result) (L .loop .inv .3) (w .weigh .ensures .1) (omega (arith, L .before .before .pre .1))
 
   is-term : w .weigh .result ≡ t (L .loop .k)
   is-term =
+      let a = L .before .before .args in
       w .weigh .ensures .0
-      ∙ ap₂ (λ (i : ℕ) (y : ℤ). weighed (reads (L .before .line-values .result) i) y) (w .before .before .slot .ensures .0)
-      (toZ-ofZ w16 (getD (L .before .before .args .t1 .outputs) (L .loop .k) noOutput .weight) (search needs))
+      ∙ ap₂ (λ (i : ℕ) (y : ℤ). weighed (shownAt (a .values .now) i (a .x)) y) (w .before .before .before .slot .ensures .0)
+      (toZ-ofZ w16 (getD (a .t2) (L .loop .k) noOutput .weight) (search needs))
 
 add-sum : tie.Need-add-sum Inv-loop μ-loop
 add-sum c = let l = L c in add-fits w32 (sumTo (l .loop .k) (t c)) (c .weigh .result) (l .loop .inv .2) refl (room c)
@@ -83,15 +89,14 @@ loop-again c =
     )
 
 returns : tie.Need-returns Inv-loop μ-loop
+unfolding readSum
 returns c =
-    let l = c .before in
-    let s = l .before .before in
+    let l = c .before .loop in
+    let s = c .before .before .before in
     let a = s .args in
-    let t = readTerm (l .before .line-values .result) (a .t1 .outputs) in
-    let n : l .loop .k ≡ a .t1 .head .outputs = omega arith in
-    read-back w32 (sumTo (l .loop .k) t) (l .loop .inv .2) (omega (arith, s .pre .outputs, l .loop .inv .3))
-    ∙ ap (λ (k : ℕ). sumTo k t) n
-    ∙ row-of (a .t1) (a .f) (a .x) (s .pre) (omega (arith, s .pre .outputs)) (l .before .line-values .ensures)
+    let t = readTerm (a .values .now) (a .t2) (a .x) in
+    let n : l .k ≡ a .count = omega arith in
+    read-back w32 (sumTo (l .k) t) (l .inv .2) (omega (arith, s .pre .1, l .inv .3)) ∙ ap (λ (k : ℕ). sumTo k t) n
 
 pub row-value-spec : {M : Type 1} → statement M
 row-value-spec =
@@ -99,12 +104,13 @@ row-value-spec =
     (tie.spec
     Inv-loop
     μ-loop
-    line-values-requires
     loop-holds
     mul-output
-    element-copy-out-output
+    array-copy-out-output
     slot-requires
-    array-read-weigh
+    mul-at
+    add-weigh
+    shared-slice-read-weigh
     weigh-requires
     add-sum
     add-k

@@ -1,80 +1,58 @@
--- The invariant: the first x rows are written, and the rest is as it was.
+-- The columns of the inputs, then of the gates, and the rows' values read from them.
 use borrow.Author.Needs.{needs}
-use mathlib.Core.Path.{_≡_, refl, _∙_}
-use mathlib.Core.List.{_++_}
-use Prim.Native.Nat.{_-_, _≤_, _<_}
+use mathlib.Core.Path.{_≡_, _∙_}
+use Prim.Native.Nat.{_≤_}
 use native.Mathlib.Omega.{arith}
-use lib.ListN.{length, drop, length-set}
-use mir.Syntax.{w32}
-use mir.ValLaws.{toZ-ofZ}
-use Rattle.integer.specs.Tab.{tab}
-use Rattle.integer.proofs.Tabs.{write-turn}
-use Rattle.netlist.specs.Circuits.{netlistOf}
-use Rattle.simulation.specs.Rows.{rowValue}
-use Rattle.simulation.proofs.RowValues.{rows-few, rows-done}
+use lib.ListN.{length}
+use Rattle.integer.proofs.Tabs.{length-mapped}
+use Rattle.simulation.proofs.Columns.{blank-columns}
+use Rattle.simulation.proofs.RowValues.{rows-few, rows-read}
 use Rattle.simulation.proofs.rows.Statement.{statement}
 use Rattle.simulation.proofs.rows.Tie as tie
 
-abbrev Inv-loop : tie.InvT-loop
-Inv-loop c f out₀ x₀ out x = (x ≤ length out₀) × (length out ≡ length out₀) × (out ≡ tab x (rowValue (netlistOf c) f) ++ drop x out₀)
+few : (s : tie.Start) → length (s .args .out .now) ≤ 256
+few s = omega (arith, s .pre .1, rows-few (s .args .c) (s .pre .0))
 
-abbrev μ-loop : tie.MeasureT-loop
-μ-loop c f out₀ x₀ out x = length out₀ - x
+outputs : (s : tie.Start) → length (s .args .c .outputs) ≡ 4
+outputs s = search (needs, length-mapped)
 
-loop-holds : tie.Need-loop-holds Inv-loop μ-loop
-unfolding tab
-loop-holds c = (search needs, refl, refl)
+slice-aggregate-input-columns : tie.Need-slice-aggregate-input-columns
+slice-aggregate-input-columns c = search needs
 
-row-value-requires : tie.Need-row-value-requires Inv-loop μ-loop
-row-value-requires c κs = c .before .before .pre .0
+input-columns-requires : tie.Need-input-columns-requires
+input-columns-requires c κs = (search needs, c .before .pre .0 .inputs, few (c .before), blank-columns 14848 _ (c .before .args .f))
 
-few : (w : tie.After-row-value Inv-loop μ-loop) → w .before .before .loop .x < 256
-few w = let s = w .before .before .before in omega (arith, s .pre .1, rows-few (s .args .c) (s .pre .0))
+slice-aggregate-gate-columns : tie.Need-slice-aggregate-gate-columns
+slice-aggregate-gate-columns c = search needs
 
-mul-t5 : tie.Need-mul-t5 Inv-loop μ-loop
-mul-t5 c = record { fits = omega (arith, few c) }
+gate-columns-requires : tie.Need-gate-columns-requires
+gate-columns-requires c κs = let s = c .before .before .before .before in (s .pre .0, search needs, few s, c .before .before .input-columns .ensures)
 
-slice-set-from-out : tie.Need-slice-set-from-out Inv-loop μ-loop
-slice-set-from-out c = search needs
+slice-aggregate-row-values : tie.Need-slice-aggregate-row-values
+slice-aggregate-row-values c = search needs
 
-add-x : tie.Need-add-x Inv-loop μ-loop
-add-x c = record { fits = omega (arith, few c) }
+row-values-requires : tie.Need-row-values-requires
+row-values-requires c κs = let s = c .before .before .before .before .before .before .before .before .before in (search needs, s .pre .0 .outputs, few s)
 
-loop-less : tie.Need-loop-less Inv-loop μ-loop
-loop-less c = search needs
-
-loop-again : tie.Need-loop-again Inv-loop μ-loop
-loop-again c =
-    let l = c .before .before in
-    let a = l .before .args in (
-      search needs,
-      length-set (l .loop .out) (l .loop .x) _ ∙ l .loop .inv .1,
-      write-turn (a .out .now) (l .loop .out) (rowValue (netlistOf (a .c)) (a .f)) (l .loop .x) _ (omega arith) (l .loop .inv .2)
-          (toZ-ofZ w32 (c .row-value .result) (record { sfits = c .row-value .ok }) ∙ c .row-value .ensures),
-    )
-
-same-length : tie.Need-same-length Inv-loop μ-loop
+same-length : tie.Need-same-length
 same-length c = search needs
 
-returns : tie.Need-returns Inv-loop μ-loop
-unfolding netlistOf
+returns : tie.Need-returns
 returns c =
-    let l = c .before in
-    let a = l .before .args in
-    l .loop .inv .2 ∙ rows-done (netlistOf (a .c)) (a .f) (l .loop .x) (a .out .now) (omega arith) (l .before .pre .1)
+    let g = c .before .before .before .before .before .before in
+    let s = g .before .before .before .before .before in
+    c .before .row-values .ensures
+    ∙ rows-read (s .args .c) (s .args .f) (length (s .args .out .now)) (s .pre .0) (omega (arith, s .pre .0 .outputs, outputs s)) (s .pre .1) (g .gate-columns .ensures)
 
 pub rows-spec : {M : Type 1} → statement M
 rows-spec =
     tie.close
     (tie.spec
-    Inv-loop
-    μ-loop
-    loop-holds
-    row-value-requires
-    mul-t5
-    slice-set-from-out
-    add-x
-    loop-less
-    loop-again
+    slice-aggregate-input-columns
+    input-columns-requires
+    slice-aggregate-gate-columns
+    gate-columns-requires
+    slice-aggregate-row-values
+    row-values-requires
     same-length
     returns)

@@ -8,7 +8,8 @@ use mir.Syntax.{w64}
 use mir.Val.{SFits}
 use Rattle.integer.specs.Tab.{tab, nth}
 use Rattle.cover.specs.Steps.{bitAddedAt, bitAdded}
-use Rattle.cover.proofs.Marking.{filled, added-to, read-mask, bit-more, bit-kept}
+use Rattle.integer.proofs.Tabs.{filled}
+use Rattle.cover.proofs.Marking.{added-to, read-mask, bit-more, bit-kept}
 use native.Mathlib.Omega.{arith}
 use Rattle.cover.proofs.marks.add_marks.Statement.{statement}
 use Rattle.cover.proofs.marks.add_marks.Tie as tie

@@ -9,10 +9,10 @@ use mir.Syntax.{w32, w64}
 use mir.Val.{SFits}
 use Rattle.integer.proofs.Machine.{widens}
 use Rattle.integer.specs.Tab.{tab, nth}
-use Rattle.integer.proofs.Tabs.{write-turn}
+use Rattle.integer.proofs.Tabs.{filled, write-turn}
 use Rattle.cover.specs.Cover.{allBelow, sameAt, silent}
 use Rattle.cover.specs.Steps.{differenceAt, differences}
-use Rattle.cover.proofs.Marking.{filled, less-fits, less-kept, less-none, all-more}
+use Rattle.cover.proofs.Marking.{less-fits, less-kept, less-none, all-more}
 use native.Mathlib.Omega.{arith}
 use Rattle.cover.proofs.marks.differ.Statement.{statement}
 use Rattle.cover.proofs.marks.differ.Tie as tie

@@ -1,0 +1,164 @@
+-- Columns of line values, one value a row:
+--   column-start, column-turn, column-ahead    a loop that makes a column: its start, one turn, what it has not reached
+--   blank-columns                              columns of zeros are those of no line
+--   input-next, gates-next                     one input's column more, one gate's column more
+--   reads-slot                                 a line is read at its slot
+use mathlib.Core.Path.{_≡_, refl, sym, ap, ap₂, _∙_, subst}
+use mathlib.Core.Bool.{Bool, true, false, cond}
+use mathlib.Core.List.{List, [], _∷_, _++_}
+use Prim.Native.Nat.{ℕ, zero, suc, _+_, _*_, _≤_, _<_}
+use native.Mathlib.Decide.{ℕ-discrete}
+use native.Mathlib.Omega.{arith}
+use borrow.Author.Tests.{ltb-true, ltb-false}
+use lib.Arith.{lt-of-le-ne}
+use lib.Dec.{ltb}
+use lib.ListN.{length, take, getD, set, replicate, List·getD-eq-default}
+use lib.Seq.{getD-set-same, getD-set-other, getD-append-seam, length-take-le}
+use Rattle.integer.specs.Tab.{tab}
+use Rattle.netlist.specs.Circuits.{Sized, noGate}
+use Rattle.netlist.specs.declared.Circuit.{Circuit}
+use Rattle.netlist.specs.declared.Fault.{Fault}
+use Rattle.netlist.specs.declared.Gate.{Gate}
+use Rattle.netlist.specs.declared.Kind.{Kind}
+use Rattle.simulation.specs.Rows.{gateValue, shown, applied, inputShown, inputValues, reads, gateNext, gatesNext}
+use Rattle.simulation.specs.Steps.{shownAt, seenAs, Columned, inputRule, gateRule, Columns, inputLines, slotOf}
+use Rattle.simulation.specs.declared.Seen.{Seen}
+use Rattle.simulation.proofs.LineValues.{length-inputs, length-lines, input-more, gates-more}
+
+-- A loop that makes one column.
+
+module _ (before : List Bool) (line : ℕ) (rule : ℕ → Bool) where
+  pub column-start : Columned before before line 0 rule
+  column-start = record { made = λ x h. absurd (omega arith); kept = λ i h. refl }
+
+  module _ (x : ℕ) {now : List Bool} (inv : Columned before now line x rule) where
+    pub column-turn : (z : Bool) → line * 256 + x < length now → z ≡ rule x → Columned before (set now (line * 256 + x) z) line (x + 1) rule
+    column-turn z room is =
+        record {
+          made = λ y h. pick y h (ℕ-discrete y x);
+          kept = λ i out. getD-set-other now (line * 256 + x) i z false (λ e. out (omega arith) (omega arith)) ∙ inv .kept i (λ low high. out low (omega arith));
+        }
+      where
+        pick : (y : ℕ) → y < x + 1 → Dec (y ≡ x) → shownAt (set now (line * 256 + x) z) line y ≡ rule y
+        pick y h (yes e) = rw e (getD-set-same now (line * 256 + x) z false room ∙ is)
+        pick y h (no n) = getD-set-other now (line * 256 + x) (line * 256 + y) z false (λ e. n (omega arith)) ∙ inv .made y (lt-of-le-ne (omega arith) n)
+
+    pub column-ahead : (a : ℕ) → x < 256 → shownAt now a x ≡ shownAt before a x
+    column-ahead a h = inv .kept (a * 256 + x) (λ low high. absurd (omega arith))
+
+-- What columns say of lines.
+
+reads-none : (k i : ℕ) → reads (replicate k false) i ≡ false
+reads-none zero i = refl
+reads-none (suc k) zero = refl
+reads-none (suc k) (suc i) = reads-none k i
+
+reads-zero : (i : ℕ) → reads (false ∷ []) i ≡ false
+reads-zero zero = refl
+reads-zero (suc i) = refl
+
+pub blank-columns : (k n : ℕ) (f : Fault) → Columns (replicate k false) n (inputLines f 0)
+unfolding inputValues tab
+blank-columns k n f = record { each = λ line x l h. reads-none k (line * 256 + x) ∙ sym (reads-zero line) }
+
+reads-more : (l : List Bool) (v : Bool) (i : ℕ) → (i ≡ length l → ⊥) → reads (l ++ (v ∷ [])) i ≡ reads l i
+reads-more [] v zero n = absurd (n refl)
+reads-more [] v (suc i) n = refl
+reads-more (y ∷ l) v zero n = refl
+reads-more (y ∷ l) v (suc i) n = reads-more l v i (λ e. n (ap suc e))
+
+-- a value more on each row, in a column of its own
+next : {values after : List Bool} (n line : ℕ) (lines : ℕ → List Bool) (rule : ℕ → Bool) → n ≤ 256
+    → ((x : ℕ) → x < n → length (lines x) ≡ line) → Columns values n lines → Columned values after line n rule
+    → Columns after n (λ x. lines x ++ (rule x ∷ []))
+next {values} {after} n line lines rule small long are made = record { each = λ i x l h. pick i x l h (ℕ-discrete i line) }
+  where
+    pick : (i x : ℕ) → i < 58 → x < n → Dec (i ≡ line) → shownAt after i x ≡ reads (lines x ++ (rule x ∷ [])) i
+    pick i x l h (yes e) =
+        ap (λ (k : ℕ). shownAt after k x) e ∙ made .made x h ∙ sym (getD-append-seam (lines x) (rule x) [] false)
+        ∙ ap (reads (lines x ++ (rule x ∷ []))) (long x h ∙ sym e)
+    pick i x l h (no other) =
+        made .kept (i * 256 + x) (λ low high. other (omega arith)) ∙ are .each i x l h ∙ sym (reads-more (lines x) (rule x) i (λ e. other (e ∙ long x h)))
+
+-- what is shown of a value, by what is shown of 1 and of 0
+seen-is : (f : Fault) (line : ℕ) (s : Seen) → (s .one ≡ shown f line true) × (s .zero ≡ shown f line false) → (v : Bool) → seenAs s v ≡ shown f line v
+seen-is f line s e true = e .0
+seen-is f line s e false = e .1
+
+columns-as : {values : List Bool} (n : ℕ) (lines others : ℕ → List Bool) → ((x : ℕ) → x < n → lines x ≡ others x) → Columns values n lines → Columns values n others
+columns-as n lines others same are = record { each = λ i x l h. are .each i x l h ∙ ap (λ (r : List Bool). reads r i) (same x h) }
+
+module _ (f : Fault) (n : ℕ) {values after : List Bool} (small : n ≤ 256) where
+  pub input-next : (i : ℕ) (s : Seen) → (s .one ≡ shown f (i + 1) true) × (s .zero ≡ shown f (i + 1) false)
+      → Columns values n (inputLines f i) → Columned values after (i + 1) n (inputRule s i) → Columns after n (inputLines f (i + 1))
+  input-next i s e are made =
+      columns-as n (λ x. inputLines f i x ++ (inputRule s i x ∷ [])) (inputLines f (i + 1))
+      (λ x h. ap (λ (v : Bool). inputValues f x i ++ (v ∷ [])) (seen-is f (i + 1) s e (applied x i)) ∙ input-more f x i)
+      (next n (i + 1) (inputLines f i) (inputRule s i) small (λ x h. length-inputs f x i) are made)
+
+pub reads-slot : (l : List Bool) (line : ℕ) → length l ≤ 57 → reads l (slotOf line) ≡ reads l line
+unfolding slotOf
+reads-slot l line h = pick (ltb line 57) refl
+  where
+    pick : (b : Bool) → ltb line 57 ≡ b → reads l (cond b line 57) ≡ reads l line
+    pick true e = refl
+    pick false e =
+        let past : 57 ≤ line = ltb-false line 57 e in
+        List·getD-eq-default l false h ∙ sym (List·getD-eq-default l false (omega arith))
+
+pub slot-few : (line : ℕ) → slotOf line < 58
+unfolding slotOf
+slot-few line = pick (ltb line 57) refl
+  where
+    pick : (b : Bool) → ltb line 57 ≡ b → cond b line 57 < 58
+    pick true e = omega (arith, ltb-true line 57 e)
+    pick false e = omega arith
+
+-- what a column shows at a line's slot
+pub slot-shows : {values : List Bool} (n : ℕ) (lines : ℕ → List Bool) → Columns values n lines → (line x : ℕ) → x < n → length (lines x) ≤ 57
+    → shownAt values (slotOf line) x ≡ reads (lines x) line
+slot-shows n lines are line x h few = are .each (slotOf line) x (slot-few line) h ∙ reads-slot (lines x) line few
+
+module _ (f : Fault) (n line : ℕ) (lines : ℕ → List Bool) {values after : List Bool} (small : n ≤ 256) (few : line ≤ 57) (long : (x : ℕ) → x < n → length (lines x) ≡ line) where
+  pub gate-next : (g : Gate) (s : Seen) → (s .one ≡ shown f line true) × (s .zero ≡ shown f line false)
+      → Columns values n lines → Columned values after line n (gateRule values s (g .kind) (slotOf (g .a)) (slotOf (g .b))) → Columns after n (λ x. gateNext f (lines x) g)
+  unfolding gateNext
+  gate-next g s e are made =
+      columns-as n (λ x. lines x ++ (gateRule values s (g .kind) (slotOf (g .a)) (slotOf (g .b)) x ∷ [])) (λ x. gateNext f (lines x) g)
+      (λ x h. ap (λ (v : Bool). lines x ++ (v ∷ [])) (shows x h))
+      (next n line lines (gateRule values s (g .kind) (slotOf (g .a)) (slotOf (g .b))) small long are made)
+    where
+      shows : (x : ℕ) → x < n → gateRule values s (g .kind) (slotOf (g .a)) (slotOf (g .b)) x ≡ shown f (length (lines x)) (gateValue (g .kind) (reads (lines x) (g .a)) (reads (lines x) (g .b)))
+      shows x h =
+          let short : length (lines x) ≤ 57 = omega (arith, long x h) in
+          seen-is f line s e _
+          ∙ ap₂ (λ (a b : Bool). shown f line (gateValue (g .kind) a b)) (slot-shows n lines are (g .a) x h short) (slot-shows n lines are (g .b) x h short)
+          ∙ ap (λ (k : ℕ). shown f k (gateValue (g .kind) (reads (lines x) (g .a)) (reads (lines x) (g .b)))) (sym (long x h))
+
+-- the lines of row x with the inputs and the first j gates
+abbrev pub linesTo : Circuit → Fault → ℕ → ℕ → List Bool
+linesTo c f j x = gatesNext f (inputValues f x (c .head .inputs)) (take j (c .gates))
+
+pub gates-next : (c : Circuit) (f : Fault) (n j : ℕ) {values after : List Bool} {a b : ℕ} → n ≤ 256 → Sized c → length (c .gates) ≡ 48 → j < c .head .gates
+    → (s : Seen) → (s .one ≡ shown f (c .head .inputs + j + 1) true) × (s .zero ≡ shown f (c .head .inputs + j + 1) false)
+    → a ≡ slotOf (getD (c .gates) j noGate .a) → b ≡ slotOf (getD (c .gates) j noGate .b) → Columns values n (linesTo c f j)
+    → Columned values after (c .head .inputs + j + 1) n (gateRule values s (getD (c .gates) j noGate .kind) a b) → Columns after n (linesTo c f (j + 1))
+gates-next c f n j {values} {after} {a} {b} small size room h s e first second are made =
+    columns-as n (λ x. gateNext f (linesTo c f j x) g) (linesTo c f (j + 1)) (λ x l. gates-more f (inputValues f x (c .head .inputs)) (c .gates) j (omega (arith, size .gates)))
+    (gate-next f n line (linesTo c f j) small (omega (arith, size .inputs, size .gates)) long g s e are at-slots)
+  where
+    line : ℕ
+    line = c .head .inputs + j + 1
+
+    g : Gate
+    g = getD (c .gates) j noGate
+
+    long : (x : ℕ) → x < n → length (linesTo c f j x) ≡ line
+    long x l =
+        length-lines f (inputValues f x (c .head .inputs)) (take j (c .gates))
+        ∙ omega (arith, length-inputs f x (c .head .inputs), length-take-le j (c .gates) (omega (arith, size .gates)))
+
+    at-slots : Columned values after line n (gateRule values s (g .kind) (slotOf (g .a)) (slotOf (g .b)))
+    at-slots =
+        subst (λ (k : ℕ). Columned values after line n (gateRule values s (g .kind) (slotOf (g .a)) k)) second
+        (subst (λ (k : ℕ). Columned values after line n (gateRule values s (g .kind) k b)) first made)
