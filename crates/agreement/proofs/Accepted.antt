@@ -1,0 +1,45 @@
+-- Fault k of an accepted text:
+--   fault-right                it is right for the circuit
+--   spectrum-is, answer-is     what the circuit call writes and answers for it, from the circuit
+--   room-answer, room-enough   a call on a list that passes the tests before 8 asks for room only, as the circuit call does
+use mathlib.Core.Path.{_≡_}
+use mathlib.Core.Bool.{Bool, true}
+use mathlib.Core.List.{List}
+use Prim.Native.Nat.{ℕ, zero, suc, _^_, _≤_, _<_}
+use native.Mathlib.Omega.{arith}
+use lib.IntN.{ℤ, pos}
+use lib.ListN.{length}
+use borrow.Author.Tests.{le-ltb, ne-eqb}
+use Rattle.integer.specs.Tab.{Within}
+use Rattle.netlist.specs.Circuits.{Netlist, faultAt}
+use Rattle.netlist.specs.Parsing.{accepted, parseOf}
+use Rattle.netlist.specs.WellFormed.{FaultRight, WellFormed, topOf}
+use Rattle.simulation.specs.Rows.{rowsOf}
+use Rattle.walsh.specs.Answers.{minus, inputsOf, screenOf}
+use Rattle.walsh.specs.Spectrum.{spectrumOf}
+use Rattle.walsh.specs.declared.Answer.the-variants.{Done}
+use Rattle.walsh.proofs.Screens.{within-screened}
+use Rattle.planner.specs.CircuitCall.{roomAnswer, faultAnswer, circuitAnswer, faultSpectrum, circuitSpectrum}
+
+pub fault-right : (n : Netlist) (k : ℕ) → WellFormed n → 1 ≤ k → k ≤ length (n .faults) → FaultRight (topOf n) (faultAt n k)
+fault-right n zero w low high = absurd (omega arith)
+fault-right n (suc k) w low high = w .faults-right k (omega arith)
+
+module _ (text : List ℕ) (n : Netlist) (parsed : parseOf text ≡ accepted n) (k : ℕ) where
+  pub spectrum-is : circuitSpectrum text k ≡ spectrumOf (rowsOf n (faultAt n k))
+  unfolding circuitSpectrum faultSpectrum
+  spectrum-is = rw parsed
+
+  pub answer-is : (room : ℕ) → k ≤ length (n .faults) → circuitAnswer text k room ≡ roomAnswer (n .inputs) room
+  unfolding circuitAnswer faultAnswer
+  answer-is room h = rw (parsed, le-ltb (length (n .faults)) k h)
+
+pub room-enough : (inputs room : ℕ) → 2 ^ inputs ≤ room → roomAnswer inputs room ≡ Done
+unfolding roomAnswer
+room-enough inputs room h = rw (le-ltb room (2 ^ inputs) h)
+
+pub room-answer : (B inputs : ℕ) (test : Bool) (l : List ℤ) (due : ℕ) → 0 < inputsOf (length l) → test ≡ true → Within B l → due ≡ 2 ^ inputs → (room : ℕ)
+    → screenOf (minus B) (pos B) test l room due ≡ roomAnswer inputs room
+unfolding screenOf roomAnswer
+room-answer B inputs test l due some right small e room =
+    rw (ne-eqb (inputsOf (length l)) 0 (λ z. absurd (omega arith)), right, le-ltb _ (length l) (within-screened B l small), e)

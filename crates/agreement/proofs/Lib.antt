@@ -1,0 +1,5 @@
+pub mod Accepted
+pub mod Pairs
+pub mod SameRows
+pub mod StuckInputs
+pub mod OpenedLines

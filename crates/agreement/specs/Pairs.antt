@@ -1,0 +1,45 @@
+-- A circuit's fault as the fault calls on coefficients are given it (document 01): the pairs of "Q lines `fault,LINE,VALUE`, with one to three
+-- LINE,VALUE pairs" as "one to three rising inputs in 1 to n with values 0 or 1".
+use Prim.Native.Nat.{ℕ, _≤_}
+use mathlib.Core.Bool.{Bool, true, false, cond}
+use mathlib.Core.List.{List, [], _∷_, map}
+use lib.Dec.{eqb}
+use Rattle.faults.specs.Faults.{Stuck, stuckOf}
+use Rattle.netlist.specs.Circuits.{Netlist}
+use Rattle.netlist.specs.declared.Fault.{Fault}
+use Rattle.netlist.specs.declared.Stuck.{Stuck as Pair}
+
+-- a pair that names no line is not there: lines count from 1
+unfoldable pub withPair : Pair → List Pair → List Pair
+withPair s rest = cond (eqb (s .line) 0) rest (s ∷ rest)
+
+-- the pairs that are there, in the text's order
+unfoldable pub presentPairs : Fault → List Pair
+presentPairs f = withPair (f .first) (withPair (f .second) (withPair (f .third) []))
+
+abbrev pub lineOf : Pair → ℕ
+lineOf s = s .line
+
+-- VALUE as a number
+abbrev pub bitFor : Bool → ℕ
+bitFor true = 1
+bitFor false = 0
+
+abbrev pub valueOf : Pair → ℕ
+valueOf s = bitFor (s .value)
+
+unfoldable pub linesOf : Fault → List ℕ
+linesOf f = map lineOf (presentPairs f)
+
+unfoldable pub valuesOf : Fault → List ℕ
+valuesOf f = map valueOf (presentPairs f)
+
+-- the lines with their values
+unfoldable pub pairsOf : Fault → List Stuck
+pairsOf f = stuckOf (linesOf f) (valuesOf f)
+
+-- the fault names inputs only; a pair that is not there has line 0
+pub record OfInputs (n : Netlist) (f : Fault) : Type 0 where
+  pub first : f .first .line ≤ n .inputs
+  pub second : f .second .line ≤ n .inputs
+  pub third : f .third .line ≤ n .inputs
