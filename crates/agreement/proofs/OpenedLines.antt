@@ -9,7 +9,7 @@ use mathlib.Core.List.{List, [], _∷_, map}
 use Prim.Native.Nat.{ℕ, suc, _+_, _*_, _-_, _/_, _%_, _^_, _≤_, _<_}
 use native.Mathlib.Nat.{le-trans, mod-eq-of-lt, add-mul-mod-self-right, mul-assoc, mul-le-mul, le-refl}
 use native.Mathlib.Omega.{arith}
-use lib.Dec.{eqb, ltb, lit≤}
+use lib.Dec.{eqb, lit≤}
 use lib.IntN.{ℤ, pos, natAbs}
 use lib.ListN.{length}
 use lib.Pow.{pow-add, pow-mono, field}
@@ -25,16 +25,16 @@ use Rattle.netlist.specs.declared.Stuck.{Stuck as Pair}
 use Rattle.netlist.proofs.Acceptance.{well-formed}
 use Rattle.simulation.specs.Rows.{shown, applied, rowValue, rowsOf}
 use Rattle.simulation.proofs.RowBounds.{row-within}
-use Rattle.walsh.specs.Answers.{numberOf, andThen, inputsOf}
+use Rattle.walsh.specs.Answers.{andThen, inputsOf}
 use Rattle.walsh.specs.Spectrum.{spectrumOf}
 use Rattle.walsh.specs.declared.Answer.{Answer}
 use Rattle.walsh.specs.declared.Answer.the-variants.{Done, Refused}
 use Rattle.walsh.proofs.Screens.{inputs-is}
 use Rattle.walsh.proofs.Spectra.{length-spectrum, within-spectrum}
-use Rattle.faults.specs.Faults.{openedRowNumber, openedRow, openedRows, openedRight, keptInputs, openedAnswer, openedSpectrumOf, undividedAnswer, firstUndivided}
+use Rattle.faults.specs.Faults.{openedRowNumber, openedRow, openedRows, openedRight, keptInputs, openedAnswer, openedSpectrumOf}
 use Rattle.faults.proofs.Arguments.{few-is, opened-binary}
 use Rattle.faults.proofs.Digits.{digit, put-low-half, put-below, put-shows}
-use Rattle.faults.proofs.Faulted.{screened, opened-never-11, opened-faulted}
+use Rattle.faults.proofs.Faulted.{screened, none-undivided, opened-faulted}
 use Rattle.faults.proofs.Opening.{Bits}
 use Rattle.planner.specs.CircuitCall.{roomAnswer, circuitAnswer, circuitSpectrum}
 use Rattle.agreement.specs.Pairs.{withPair, presentPairs, valueOf, valuesOf}
@@ -159,21 +159,6 @@ opened-bounded n f w x l =
 
 -- The opened-line call on that circuit.
 
--- a spectrum of rows that passes the tests before 11 passes that one too
-passes-11 : (rows : List ℤ) (values : List ℕ) (room : ℕ) → screened (spectrumOf rows) values room ≡ Done → undividedAnswer (spectrumOf rows) values ≡ Done
-unfolding openedAnswer undividedAnswer
-passes-11 rows values room e = go (ltb (firstUndivided c values) (2 ^ keptInputs c values)) (λ n. opened-never-11 rows values room (ap numberOf passed ∙ n))
-  where
-    c : List ℤ
-    c = spectrumOf rows
-
-    passed : openedAnswer c values room ≡ undividedAnswer c values
-    passed = ap (λ (a : Answer). andThen a (undividedAnswer c values)) e
-
-    go : (b : Bool) → (numberOf (cond b (Refused 11 (firstUndivided c values)) Done) ≡ 11 → ⊥) → cond b (Refused 11 (firstUndivided c values)) Done ≡ Done
-    go true never = absurd (never refl)
-    go false never = refl
-
 then-done : (a : Answer) → andThen a Done ≡ a
 then-done Done = refl
 then-done (Refused number place) = refl
@@ -198,25 +183,27 @@ module _ (top : ℕ) (n : Netlist) (f : Fault) (right : FaultRight top f) (well 
       let short : length rows ≤ 2048 = omega (arith, length-opened n f) in
       within-more (spectrumOf rows) (le-trans (mul-le-mul short (le-refl 60)) (lit≤ tt)) (within-spectrum 60 rows (opened-bounded n f well))
 
-  opened-screened : (room : ℕ) → screened (spectrumOf (openedCircuitRows n f)) (valuesOf f) room ≡ roomAnswer (n .inputs) room
-  opened-screened =
-      let c = spectrumOf (openedCircuitRows n f) in
-      let inputs : inputsOf (length c) ≡ n .inputs + length (valuesOf f) = ap inputsOf (length-spectrum (openedCircuitRows n f)) ∙ opened-inputs in
+  suits : openedRight (inputsOf (length (openedCircuitRows n f))) (valuesOf f) ≡ true
+  suits =
       let few = pairs-few f in
       let some = pairs-some f (right .first-low) in
       let low = well .inputs-low in
+      let inputs = opened-inputs in
+      opened-binary (inputsOf (length (openedCircuitRows n f))) (valuesOf f) (few-is (length (valuesOf f)) some few) (omega arith) ∙ values-binary f
+
+  opened-screened : (room : ℕ) → screened (spectrumOf (openedCircuitRows n f)) (valuesOf f) room ≡ roomAnswer (n .inputs) room
+  opened-screened =
+      let c = spectrumOf (openedCircuitRows n f) in
+      let same : inputsOf (length c) ≡ inputsOf (length (openedCircuitRows n f)) = ap inputsOf (length-spectrum (openedCircuitRows n f)) in
+      let inputs = opened-inputs in
+      let low = well .inputs-low in
       let left : keptInputs c (valuesOf f) ≡ n .inputs = omega arith in
       room-answer 2048000 (n .inputs) (openedRight (inputsOf (length c)) (valuesOf f)) c (2 ^ keptInputs c (valuesOf f)) (omega arith)
-      (opened-binary (inputsOf (length c)) (valuesOf f) (few-is (length (valuesOf f)) some few) (omega arith) ∙ values-binary f) opened-within
-      (ap (λ (k : ℕ). 2 ^ k) left)
-
-  -- the tests before 11 pass where there is room
-  divides : undividedAnswer (spectrumOf (openedCircuitRows n f)) (valuesOf f) ≡ Done
-  divides = passes-11 (openedCircuitRows n f) (valuesOf f) (2 ^ n .inputs) (opened-screened (2 ^ n .inputs) ∙ room-enough (n .inputs) (2 ^ n .inputs) (omega arith))
+      (ap (λ (k : ℕ). openedRight k (valuesOf f)) same ∙ suits) opened-within (ap (λ (k : ℕ). 2 ^ k) left)
 
   pub opened-answer : (room : ℕ) → openedAnswer (spectrumOf (openedCircuitRows n f)) (valuesOf f) room ≡ roomAnswer (n .inputs) room
   unfolding openedAnswer
-  opened-answer room = ap₂ andThen (opened-screened room) divides ∙ then-done (roomAnswer (n .inputs) room)
+  opened-answer room = ap₂ andThen (opened-screened room) (none-undivided (openedCircuitRows n f) (valuesOf f) suits) ∙ then-done (roomAnswer (n .inputs) room)
 
   pub opened-spectrum : openedSpectrumOf (spectrumOf (openedCircuitRows n f)) (valuesOf f) ≡ spectrumOf (rowsOf n f)
   opened-spectrum =

@@ -2,7 +2,7 @@
 --   undivided-exactly     where the earlier tests pass, 11 is given exactly when the sum over the opened lines at some label does not divide
 -- The fault calls on spectra of rows (document 01: "On a spectrum of rows both equal the sums of the faulted rows"):
 --   stuck-faulted         where the stuck-input call gives a result, it is the spectrum of the rows with the stuck inputs replaced
---   opened-never-11       the opened-line call never refuses a spectrum of rows by 11
+--   none-undivided, opened-never-11    every sum of a spectrum of rows divides, so the opened-line call never refuses it by 11
 --   opened-faulted        where it gives a result, it is the spectrum of the rows with the opened lines set
 --   replaced-shows, replaced-keeps    a replaced input has its value in the row, and every other input what it had
 use mathlib.Core.Path.{_≡_, refl, sym, ap, _∙_}
@@ -57,9 +57,9 @@ module _ (rows : List ℤ) (values : List ℕ) (right : openedRight (inputsOf (l
       opened-spectrum rows values (keptInputs rows values) (inputsOf (length rows)) (inputs-power (length rows) some-inputs) refl parts
       (binary-bits values (opened-right-means (inputsOf (length rows)) values right .bits))
 
-  divides : undividedAnswer (spectrumOf rows) values ≡ Done
+  pub none-undivided : undividedAnswer (spectrumOf rows) values ≡ Done
   unfolding undividedAnswer firstUndivided
-  divides =
+  none-undivided =
       let all = first-none (undividedAt (spectrumOf rows) values) (2 ^ keptInputs (spectrumOf rows) values)
       (opened-divides rows values (keptInputs rows values) (inputsOf (length rows)) (inputs-power (length rows) some-inputs) refl parts
       (binary-bits values (opened-right-means (inputsOf (length rows)) values right .bits))) in
@@ -124,7 +124,7 @@ unfolding openedAnswer
 opened-never-11 rows values room = go (screened (spectrumOf rows) values room) refl
   where
     go : (a : Answer) → screened (spectrumOf rows) values room ≡ a → numberOf (andThen a (undividedAnswer (spectrumOf rows) values)) ≡ 11 → ⊥
-    go Done e n = let z : _≡_ {A = ℕ} 0 11 = sym (ap numberOf (divides rows values (right-of rows values room e))) ∙ n in omega arith
+    go Done e n = let z : _≡_ {A = ℕ} 0 11 = sym (ap numberOf (none-undivided rows values (right-of rows values room e))) ∙ n in omega arith
     go (Refused number place) e n =
         screen-not-11 (minus 2048000) (pos 2048000) (openedRight (inputsOf (length (spectrumOf rows))) values) (spectrumOf rows) room (2 ^ keptInputs (spectrumOf rows) values)
         (ap numberOf e ∙ n)

@@ -2,7 +2,7 @@
 --   column-start, column-turn, column-ahead    a loop that makes a column: its start, one turn, what it has not reached
 --   blank-columns                              columns of zeros are those of no line
 --   input-next, gates-next                     one input's column more, one gate's column more
---   reads-slot                                 a line is read at its slot
+--   slot-shows                                 what is read at a line's slot is what the line shows
 use mathlib.Core.Path.{_≡_, refl, sym, ap, ap₂, _∙_, subst}
 use mathlib.Core.Bool.{Bool, true, false, cond}
 use mathlib.Core.List.{List, [], _∷_, _++_}
@@ -19,8 +19,7 @@ use Rattle.netlist.specs.Circuits.{Sized, noGate}
 use Rattle.netlist.specs.declared.Circuit.{Circuit}
 use Rattle.netlist.specs.declared.Fault.{Fault}
 use Rattle.netlist.specs.declared.Gate.{Gate}
-use Rattle.netlist.specs.declared.Kind.{Kind}
-use Rattle.simulation.specs.Rows.{gateValue, shown, applied, inputShown, inputValues, reads, gateNext, gatesNext}
+use Rattle.simulation.specs.Rows.{gateValue, shown, applied, inputValues, reads, gateNext, gatesNext}
 use Rattle.simulation.specs.Steps.{shownAt, seenAs, Columned, inputRule, gateRule, Columns, inputLines, slotOf}
 use Rattle.simulation.specs.declared.Seen.{Seen}
 use Rattle.simulation.proofs.LineValues.{length-inputs, length-lines, input-more, gates-more}
@@ -96,7 +95,7 @@ module _ (f : Fault) (n : ℕ) {values after : List Bool} (small : n ≤ 256) wh
       (λ x h. ap (λ (v : Bool). inputValues f x i ++ (v ∷ [])) (seen-is f (i + 1) s e (applied x i)) ∙ input-more f x i)
       (next n (i + 1) (inputLines f i) (inputRule s i) small (λ x h. length-inputs f x i) are made)
 
-pub reads-slot : (l : List Bool) (line : ℕ) → length l ≤ 57 → reads l (slotOf line) ≡ reads l line
+reads-slot : (l : List Bool) (line : ℕ) → length l ≤ 57 → reads l (slotOf line) ≡ reads l line
 unfolding slotOf
 reads-slot l line h = pick (ltb line 57) refl
   where
@@ -106,7 +105,7 @@ reads-slot l line h = pick (ltb line 57) refl
         let past : 57 ≤ line = ltb-false line 57 e in
         List·getD-eq-default l false h ∙ sym (List·getD-eq-default l false (omega arith))
 
-pub slot-few : (line : ℕ) → slotOf line < 58
+slot-few : (line : ℕ) → slotOf line < 58
 unfolding slotOf
 slot-few line = pick (ltb line 57) refl
   where
@@ -120,7 +119,7 @@ pub slot-shows : {values : List Bool} (n : ℕ) (lines : ℕ → List Bool) → 
 slot-shows n lines are line x h few = are .each (slotOf line) x (slot-few line) h ∙ reads-slot (lines x) line few
 
 module _ (f : Fault) (n line : ℕ) (lines : ℕ → List Bool) {values after : List Bool} (small : n ≤ 256) (few : line ≤ 57) (long : (x : ℕ) → x < n → length (lines x) ≡ line) where
-  pub gate-next : (g : Gate) (s : Seen) → (s .one ≡ shown f line true) × (s .zero ≡ shown f line false)
+  gate-next : (g : Gate) (s : Seen) → (s .one ≡ shown f line true) × (s .zero ≡ shown f line false)
       → Columns values n lines → Columned values after line n (gateRule values s (g .kind) (slotOf (g .a)) (slotOf (g .b))) → Columns after n (λ x. gateNext f (lines x) g)
   unfolding gateNext
   gate-next g s e are made =

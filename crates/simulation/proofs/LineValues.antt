@@ -5,13 +5,12 @@
 use mathlib.Core.Path.{_≡_, refl, sym, ap, _∙_}
 use mathlib.Core.Bool.{Bool}
 use mathlib.Core.List.{List, [], _∷_, _++_}
-use Prim.Native.Nat.{ℕ, zero, suc, _+_, _-_, _/_, _^_, _≤_, _<_}
+use Prim.Native.Nat.{ℕ, zero, suc, _+_, _-_, _≤_, _<_}
 use native.Mathlib.Nat.{min-le-left}
 use native.Mathlib.Numerals.{add-one}
 use native.Mathlib.Omega.{arith}
-use lib.ListN.{length, take, getD, set, length-append, length-take}
-use lib.Pow.{shr-shr}
-use lib.Seq.{take-suc, getD-take, length-take-le}
+use lib.ListN.{length, take, getD, length-append, length-take}
+use lib.Seq.{take-suc, getD-take}
 use Rattle.integer.specs.Tab.{tab}
 use Rattle.integer.proofs.Tabs.{length-tab}
 use Rattle.netlist.specs.Circuits.{netlistOf, Sized, faultAt, noGate, sound}

@@ -5,12 +5,12 @@
 --   rows-few               there are at most 256 rows
 use mathlib.Core.Path.{_≡_, sym, ap, _∙_, subst}
 use mathlib.Core.Bool.{Bool}
-use mathlib.Core.List.{List, _++_, append-nil}
+use mathlib.Core.List.{List}
 use Prim.Native.Nat.{ℕ, _+_, _*_, _^_, _≤_, _<_}
 use native.Mathlib.Numerals.{add-one}
 use native.Mathlib.Omega.{arith}
 use lib.IntN.{ℤ, _+ℤ_, natAbs}
-use lib.ListN.{length, take, drop, getD, drop-of-length-le}
+use lib.ListN.{length, take, getD}
 use lib.Pow.{pow-mono}
 use lib.Seq.{getD-take, length-take-le}
 use lib.Signed.{natAbs-le}
@@ -22,12 +22,11 @@ use Rattle.integer.proofs.Bounds.{natAbs-add, sfits-abs}
 use Rattle.integer.proofs.Machine.{widens, recast}
 use Rattle.integer.proofs.Sums.{sum-ext}
 use Rattle.integer.proofs.Tabs.{tab-ext}
-use Rattle.netlist.specs.Circuits.{Netlist, netlistOf, Sized, noOutput}
+use Rattle.netlist.specs.Circuits.{netlistOf, Sized, noOutput}
 use Rattle.simulation.specs.Rows.{outputTerm, lineValues, rowValue, rowsOf}
 use Rattle.simulation.specs.Steps.{Columns, readTerm, readSum}
 use Rattle.netlist.specs.declared.Circuit.{Circuit}
 use Rattle.netlist.specs.declared.Fault.{Fault}
-use Rattle.netlist.specs.declared.Output.{Output}
 use Rattle.simulation.proofs.Columns.{slot-shows}
 use Rattle.simulation.proofs.LineValues.{lines-few}
 
