@@ -46,6 +46,8 @@ fn show(f: Fault, line: usize, v: bool) -> bool
     )
 }
 
+// Below, `values` has what each line shows on each row: 58 columns of 256 values, 14,848 in all, with line i on row x at 256 * i + x.
+
 // What a line shows where 1 was applied or computed, and where 0 was.
 struct Seen {
     one: bool,
@@ -172,6 +174,7 @@ fn row_value(values: &[bool], outputs: [Output; 4], count: usize, x: usize) -> i
     sum
 }
 
+// Every row's value.
 fn row_values(values: &[bool], outputs: [Output; 4], count: usize, out: &mut [i32])
     requires { ⌜ (length (now values) ≡ 14848) × (count ≤ 4) × (length (now out) ≤ 256) ⌝ }
     ensures { λ _. ⌜ now (out .exit) ≡ tab (length (now (out .entry))) (readSum (now (values .entry)) outputs count) ⌝ }
