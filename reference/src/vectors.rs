@@ -80,7 +80,8 @@ fn refusal_numbers<T>(result: &Result<T, Refusal>) -> Vec<i64> {
 }
 
 impl Case {
-    fn bytes(&self) -> Vec<u8> {
+    /// The case as it is stored.
+    pub fn bytes(&self) -> Vec<u8> {
         let sizes = [
             self.text.len(),
             self.list.len(),

@@ -146,6 +146,30 @@ fn what_the_map_names_is_there() {
 }
 
 #[test]
+fn wrong_programs_are_of_the_crate_before_them() {
+    let (edits, crates) = (edits(), crates());
+    let mut checked = 0;
+    for (_, cell) in cells(&demands())
+        .iter()
+        .filter(|(head, _)| head == "refused")
+    {
+        for part in cell.split(';') {
+            let mut of: Option<&str> = None;
+            for name in quoted(part) {
+                if crates.contains(name) && !edits.contains(name) {
+                    of = Some(name);
+                } else if let Some(owner) = of {
+                    let path = root().join(format!("crates/{owner}/must-fail/{name}.edit"));
+                    assert!(path.is_file(), "{name} is none of {owner}'s: {cell}");
+                    checked += 1;
+                }
+            }
+        }
+    }
+    assert!(checked > 30, "{checked} names were looked for");
+}
+
+#[test]
 fn every_wrong_program_is_on_the_map() {
     let demands = demands();
     let named: BTreeSet<_> = demands.split('`').skip(1).step_by(2).collect();

@@ -1,6 +1,7 @@
 //! The stored cases: the file is what the second implementation would write
 //! today, and there are cases of every kind. That the library meets them is
-//! tried by the program `vectors` (`rt check vectors`).
+//! tried by the program `vectors` (`rt check vectors`), which must see every
+//! case that is not as it should be; the gate has built it before these tests.
 
 use reference::circuits::LISTING;
 use reference::netlist::{self, TEXT_LIMIT};
@@ -8,6 +9,9 @@ use reference::outcomes::Outcomes;
 use reference::plan::CAP_LIMIT;
 use reference::vectors::{cases, path, stored, Case};
 use std::collections::BTreeSet;
+use std::io::Write;
+use std::path::PathBuf;
+use std::process::{Command, Stdio};
 use std::sync::LazyLock;
 
 /// The lengths that a list can have.
@@ -29,6 +33,79 @@ fn stored_cases_are_those_of_today() {
         assert!(case.first.len() <= 4 && case.second.len() <= 4);
         let room = if case.call == "report" { 1_100 } else { 2_056 };
         assert!(case.room <= room && case.working <= 4_700);
+    }
+}
+
+/// What the program `vectors` says of a file of cases.
+fn said(file: Vec<u8>) -> String {
+    let program = PathBuf::from(env!("CARGO_MANIFEST_DIR")).join("../target/bin/vectors");
+    let mut child = Command::new(&program)
+        .stdin(Stdio::piped())
+        .stdout(Stdio::piped())
+        .spawn()
+        .unwrap_or_else(|error| panic!("{}: {error}", program.display()));
+    let mut input = child.stdin.take().expect("standard input");
+    input.write_all(&file).expect("cases taken");
+    drop(input);
+    let output = child.wait_with_output().expect("its end");
+    assert!(output.status.success());
+    String::from_utf8(output.stdout).expect("plain text")
+}
+
+/// The program says of each of these cases, spoilt, that it differs.
+fn assert_all_differ(
+    least: usize,
+    chosen: impl Fn(&Case) -> bool,
+    spoil: impl Fn(usize, &mut Case),
+) {
+    let mut spoilt: Vec<Case> = CASES.iter().filter(|case| chosen(case)).cloned().collect();
+    let count = spoilt.len();
+    assert!(count >= least, "{count} cases");
+    for (at, case) in spoilt.iter_mut().enumerate() {
+        spoil(at, case);
+    }
+    let file = spoilt.iter().flat_map(Case::bytes).collect();
+    assert_eq!(said(file), format!("{count} cases, {count} differ\n"));
+}
+
+#[test]
+fn spoilt_cases_differ() {
+    // A byte of what is due, each time another one.
+    assert_all_differ(
+        1_500,
+        |case| !case.due.is_empty(),
+        |at, case| {
+            let place = at * 7_919 % case.due.len();
+            case.due[place] ^= 1;
+        },
+    );
+    // A byte less and a byte more.
+    assert_all_differ(
+        1_500,
+        |case| !case.due.is_empty(),
+        |_, case| case.due.truncate(case.due.len() - 1),
+    );
+    assert_all_differ(1_500, |_| true, |_, case| case.due.push(b'\n'));
+    // The sums of readings, each of a pair's three in turn.
+    let reads = |case: &Case| ["reading", "pair"].contains(&case.call) && case.number == 0;
+    assert_all_differ(100, reads, |at, case| {
+        let place = at % case.list.len();
+        case.list[place] += 1;
+    });
+    // Where a field starts.
+    let fields = |case: &Case| case.call == "field";
+    assert_all_differ(40, fields, |_, case| case.second[0] += 1);
+}
+
+#[test]
+fn cut_files_differ() {
+    let (last, before) = CASES.split_last().expect("cases");
+    let whole: Vec<u8> = before.iter().flat_map(Case::bytes).collect();
+    let count = CASES.len();
+    for length in [1, 53, 54, last.bytes().len() - 1] {
+        let mut file = whole.clone();
+        file.extend(&last.bytes()[..length]);
+        assert_eq!(said(file), format!("{count} cases, 1 differ\n"), "{length}");
     }
 }
 

@@ -17,13 +17,20 @@ fn written(text: &[u8], out: &mut [u8], work: &mut [u32]) -> usize
     r.bytes
 }
 
+// Prints the report on a text. It asks for that report, so that nothing else is printed.
+fn print(report: &[u8], text: &[u8]) -> bool
+    requires { ⌜ now report ≡ reportOf (now text) ⌝ }
+{
+    io::write_all(STDOUT_FILENO, report)
+}
+
 // Reads one byte more than a text may have, so that a longer input is refused by its length and never cut to a text that passes.
 fn answer(text: &mut [u8], out: &mut [u8], work: &mut [u32]) -> bool
     requires { ⌜ (bytesDue ≤ length (now out)) × (workDue ≤ length (now work)) ⌝ }
 {
     let length = io::read_full(STDIN_FILENO, text);
     let bytes = written(&text[..length], out, work);
-    io::write_all(STDOUT_FILENO, &out[..bytes])
+    print(&out[..bytes], &text[..length])
 }
 
 fn main() {
