@@ -8,7 +8,7 @@ use reference::circuits::{
 };
 use reference::lent::{lend_text, surround, Shown};
 use reference::library::{self, Span};
-use reference::netlist::{self, CIRCUIT_LIMIT, TEXT_LIMIT};
+use reference::netlist::{self, Netlist, StuckLine, CIRCUIT_LIMIT, TEXT_LIMIT};
 use reference::outcomes::{compare, written, Outcomes};
 use reference::random::Random;
 use reference::walsh;
@@ -123,6 +123,63 @@ fn library_spectrum(text: &str, fault: u32, length: usize) -> Vec<i32> {
     written(case, length, |out| {
         library::circuit(text.as_bytes(), fault, out)
     })
+}
+
+// Faults from coefficients alone.
+
+/// The rows of the circuit with the fault's lines opened: behind the inputs each
+/// opened line is driven by a bit of the row.
+fn opened_rows(netlist: &Netlist, lines: &[StuckLine]) -> Vec<i32> {
+    let mut rows = Vec::new();
+    for bits in 0..1 << lines.len() {
+        let driven = lines.iter().enumerate().map(|(at, stuck)| StuckLine {
+            line: stuck.line,
+            value: bits >> at & 1 == 1,
+        });
+        let opened = Netlist {
+            faults: vec![driven.collect()],
+            ..netlist.clone()
+        };
+        rows.extend(opened.rows(1).expect("fault 1"));
+    }
+    rows
+}
+
+#[test]
+fn faults_of_circuits_from_coefficients_alone() {
+    let mut random = Random::new(SEED + 40);
+    let (mut of_inputs, mut of_inner_lines) = (0, 0);
+    for _ in 0..150 {
+        let sizes = Sizes::draw(&mut random);
+        let text = Draft::draw(&mut random, sizes).text();
+        let netlist = netlist::parse(&text).expect("a good circuit");
+        let length = 1 << netlist.inputs;
+        let case = Shown(&text);
+        let under = |fault: u32| {
+            written(format_args!("fault {fault} of {case}"), length, |out| {
+                library::circuit(&text, fault, out)
+            })
+        };
+        for (lines, fault) in netlist.faults.iter().zip(1..) {
+            let numbers: Vec<u32> = lines.iter().map(|stuck| stuck.line as u32).collect();
+            let values: Vec<u32> = lines.iter().map(|stuck| stuck.value.into()).collect();
+            let what = format_args!("fault {fault} of {case}");
+            if lines.iter().all(|stuck| stuck.line <= netlist.inputs) {
+                let found = written(what, length, |out| {
+                    library::stuck(&under(0), &numbers, &values, out)
+                });
+                assert_eq!(found, under(fault), "stuck inputs, {what}");
+                of_inputs += 1;
+            }
+            let rows = opened_rows(&netlist, lines);
+            let spectrum = written(what, rows.len(), |out| library::spectrum(&rows, out));
+            let found = written(what, length, |out| library::opened(&spectrum, &values, out));
+            assert_eq!(found, under(fault), "opened lines, {what}");
+            of_inner_lines += usize::from(lines.iter().all(|stuck| stuck.line > netlist.inputs));
+        }
+    }
+    assert!(of_inputs > 200, "{of_inputs} faults of inputs");
+    assert!(of_inner_lines > 200, "{of_inner_lines} of inner lines");
 }
 
 // Good circuits.
