@@ -20,11 +20,11 @@ use Rattle.integer.proofs.Tabs.{length-tab, getD-tab, tab-ext}
 use Rattle.netlist.specs.Circuits.{Netlist, faultAt}
 use Rattle.netlist.specs.Parsing.{accepted, parseOf}
 use Rattle.netlist.specs.WellFormed.{FaultRight, WellFormed, topOf}
-use Rattle.netlist.specs.declared.Fault.{Fault}
-use Rattle.netlist.specs.declared.Stuck.{Stuck as Pair}
 use Rattle.netlist.proofs.Acceptance.{well-formed}
 use Rattle.simulation.specs.Rows.{shown, applied, rowValue, rowsOf}
 use Rattle.simulation.proofs.RowBounds.{row-within}
+use Rattle.statements.specs.declared.Fault.{Fault}
+use Rattle.statements.specs.declared.Stuck.{Stuck as Pair}
 use Rattle.walsh.specs.Answers.{andThen, inputsOf}
 use Rattle.walsh.specs.Spectrum.{spectrumOf}
 use Rattle.walsh.specs.declared.Answer.{Answer}

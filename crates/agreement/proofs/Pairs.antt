@@ -15,13 +15,13 @@ use lib.Dec.{eqb}
 use lib.ListN.{length, length-map}
 use borrow.Author.Tests.{eq-eqb, ne-eqb, eqb-true}
 use Rattle.netlist.specs.WellFormed.{Above, FaultRight}
-use Rattle.netlist.specs.declared.Fault.{Fault}
-use Rattle.netlist.specs.declared.Stuck.{Stuck as Pair}
 use Rattle.netlist.proofs.Acceptance.{free-line}
 use Rattle.simulation.specs.Rows.{stuckOr, shown}
 use Rattle.faults.specs.Faults.{rising, binary, stuckRight}
 use Rattle.faults.proofs.Arguments.{rising-cons, few-is, stuck-binary, binary-bits}
 use Rattle.faults.proofs.Opening.{Bits}
+use Rattle.statements.specs.declared.Fault.{Fault}
+use Rattle.statements.specs.declared.Stuck.{Stuck as Pair}
 use Rattle.agreement.specs.Pairs.{withPair, presentPairs, lineOf, bitFor, valueOf, linesOf, valuesOf}
 
 -- One pair.

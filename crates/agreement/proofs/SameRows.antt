@@ -9,11 +9,11 @@ use lib.ListN.{length}
 use Rattle.integer.specs.Sum.{sumTo}
 use Rattle.integer.proofs.Tabs.{tab-ext}
 use Rattle.netlist.specs.Circuits.{Netlist}
-use Rattle.netlist.specs.declared.Fault.{Fault}
-use Rattle.netlist.specs.declared.Gate.{Gate}
 use Rattle.simulation.specs.Rows.{shown, inputShown, inputValues, gateNext, gatesNext, lineValues, outputTerm, rowValue}
 use Rattle.simulation.proofs.Equations.{gateIn}
 use Rattle.simulation.proofs.LineValues.{length-inputs, length-next}
+use Rattle.statements.specs.declared.Fault.{Fault}
+use Rattle.statements.specs.declared.Gate.{Gate}
 
 -- the faults treat the lines above the inputs alike
 module _ (n : Netlist) (f g : Fault) (above : (line : ℕ) (v : Bool) → n .inputs < line → shown f line v ≡ shown g line v) where

@@ -16,15 +16,16 @@ use borrow.Author.Tests.{eqb-true, eqb-false, ne-eqb}
 use Rattle.integer.specs.Tab.{tab}
 use Rattle.integer.proofs.Bounds.{within-more}
 use Rattle.integer.proofs.Tabs.{tab-ext, getD-tab}
-use Rattle.netlist.specs.Circuits.{Netlist, sound, faultAt}
+use Rattle.netlist.specs.Circuits.{Netlist, faultAt}
 use Rattle.netlist.specs.Parsing.{accepted, parseOf}
 use Rattle.netlist.specs.WellFormed.{Above, FaultRight, WellFormed, topOf}
-use Rattle.netlist.specs.declared.Fault.{Fault}
-use Rattle.netlist.specs.declared.Stuck.{Stuck as Pair}
 use Rattle.netlist.proofs.Acceptance.{well-formed}
 use Rattle.simulation.specs.Rows.{stuckOr, shown, applied, inputShown, rowValue, rowsOf}
 use Rattle.simulation.proofs.RowBounds.{length-rows}
 use Rattle.simulation.proofs.Showing.{others-keep, sound-keeps}
+use Rattle.statements.specs.Items.{sound}
+use Rattle.statements.specs.declared.Fault.{Fault}
+use Rattle.statements.specs.declared.Stuck.{Stuck as Pair}
 use Rattle.walsh.specs.Answers.{inputsOf}
 use Rattle.walsh.specs.Spectrum.{spectrumOf}
 use Rattle.walsh.specs.declared.Answer.the-variants.{Done}

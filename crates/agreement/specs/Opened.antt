@@ -6,9 +6,9 @@ use lib.IntN.{ℤ}
 use lib.ListN.{length}
 use Rattle.integer.specs.Tab.{tab}
 use Rattle.netlist.specs.Circuits.{Netlist}
-use Rattle.netlist.specs.declared.Fault.{Fault}
-use Rattle.netlist.specs.declared.Stuck.{Stuck as Pair}
 use Rattle.simulation.specs.Rows.{applied, rowValue}
+use Rattle.statements.specs.declared.Fault.{Fault}
+use Rattle.statements.specs.declared.Stuck.{Stuck as Pair}
 use Rattle.agreement.specs.Pairs.{valuesOf}
 
 -- the pair's line, driven by bit i of row x

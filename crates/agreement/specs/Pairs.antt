@@ -6,8 +6,8 @@ use mathlib.Core.List.{List, [], _∷_, map}
 use lib.Dec.{eqb}
 use Rattle.faults.specs.Faults.{Stuck, stuckOf}
 use Rattle.netlist.specs.Circuits.{Netlist}
-use Rattle.netlist.specs.declared.Fault.{Fault}
-use Rattle.netlist.specs.declared.Stuck.{Stuck as Pair}
+use Rattle.statements.specs.declared.Fault.{Fault}
+use Rattle.statements.specs.declared.Stuck.{Stuck as Pair}
 
 -- a pair that names no line is not there: lines count from 1
 unfoldable pub withPair : Pair → List Pair → List Pair

@@ -7,14 +7,16 @@ use mathlib.Core.List.{[], _∷_}
 use Prim.Native.Nat.{ℕ}
 use lib.IntN.{pos}
 use Rattle.text.specs.Writing.{decimalTo, decimalOf, integerOf, gather, numberField, numbersOf, lineOf}
-use Rattle.netlist.specs.CircuitText.{headLine, kindWord, gateLine, outputLine, pairOf, faultLine, eachLine, textOf as circuitText}
-use Rattle.netlist.specs.Circuits.{Netlist, free}
-use Rattle.netlist.specs.declared.Fault.{Fault}
-use Rattle.netlist.specs.declared.Gate.{Gate}
-use Rattle.netlist.specs.declared.Kind.{Kind}
-use Rattle.netlist.specs.declared.Kind.the-variants.{And, Or, Not}
-use Rattle.netlist.specs.declared.Output.{Output}
-use Rattle.netlist.specs.declared.Stuck.{Stuck}
+use Rattle.statements.specs.Items.{free}
+use Rattle.statements.specs.Lines.{kindWord}
+use Rattle.statements.specs.declared.Fault.{Fault}
+use Rattle.statements.specs.declared.Gate.{Gate}
+use Rattle.statements.specs.declared.Kind.{Kind}
+use Rattle.statements.specs.declared.Kind.the-variants.{And, Or, Not}
+use Rattle.statements.specs.declared.Output.{Output}
+use Rattle.statements.specs.declared.Stuck.{Stuck}
+use Rattle.netlist.specs.CircuitText.{headLine, gateLine, outputLine, pairOf, faultLine, eachLine, textOf as circuitText}
+use Rattle.netlist.specs.Circuits.{Netlist}
 use Rattle.examples.specs.Texts.{bytesOf, textOf, gatedText, listing}
 
 abbrev gate : Kind → ℕ → ℕ → Gate

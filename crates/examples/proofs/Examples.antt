@@ -12,7 +12,7 @@ use Rattle.walsh.specs.Lists.{spectrumAnswer, unfit, unfitAt, firstUnfit, divid
 use Rattle.walsh.specs.Spectrum.{termOf, signedSum, coefficientOf, spectrumOf}
 use Rattle.faults.specs.Faults.{stuckOf, names, subsetSum, stuckAt, stuckSpectrumOf, rising, binary, fewOf, stuckRight, stuckAnswer, openedRight, linesAfter, openedSumAt, openedAt, openedSpectrumOf, undividedAt, firstUndivided, undividedAnswer, openedAnswer, replacedAll, stuckRow, stuckRows, openedRowNumber, openedRow, openedRows}
 use Rattle.text.specs.Text.{indexOf, before, after, fieldOf, fieldCount, sameBytes, digits, decimalFrom, wellFormed, numberOf}
-use Rattle.netlist.specs.Lines.{valueAt, numbersFrom, isLine, inRange, fits, refusalOf, isHead, headFits, headRefusal, headOf, isKind, kindOf, isGate, secondFits, gateFits, readsBelow, gateRefusal, gateOf, isOutput, outputFits, outputRefusal, outputOf, isFault, pairInRange, pairFits, faultFits, linesExist, risesAt, linesRise, faultRefusal, stuckAt as stuckField, faultOf}
+use Rattle.statements.specs.Lines.{valueAt, numbersFrom, isLine, inRange, fits, refusalOf, isHead, headFits, headRefusal, headOf, isKind, kindOf, isGate, secondFits, gateFits, readsBelow, gateRefusal, gateOf, isOutput, outputFits, outputRefusal, outputOf, isFault, pairInRange, pairFits, faultFits, linesExist, risesAt, linesRise, faultRefusal, stuckAt as stuckField, faultOf}
 use Rattle.netlist.specs.Parsing.{linesOf, gatesIn, outputsIn, faultsIn, endOf, bodyOf, parseOf}
 use Rattle.simulation.specs.Rows.{gateValue, stuckOr, shown, inputValues, gateNext, gatesNext, lineValues, rowValue, rowsOf as circuitRows}
 use Rattle.reading.specs.Readings.{agrees, countTo, countOf, wholeSum, quotient, valueOf, caseOf, pairOf}

@@ -18,18 +18,19 @@ use borrow.Author.Tests.{ltb-true, leb-true, eqb-true, lt-leb, eq-eqb}
 use Rattle.text.specs.Text.{before, after, lineEnd, indexOf, fieldOf, fieldCount, numberOf, wellFormed}
 use Rattle.integer.proofs.Bools.{both}
 use Rattle.text.proofs.Parts.{no-field}
-use Rattle.netlist.specs.Circuits.{Netlist, netlistOf, noGate, noOutput, free, sound}
-use Rattle.netlist.specs.Lines.{unless, refusalOf, inRange, valueAt, isLine, fits, faultWord, isHead, headFits, headRefusal, headOf, kindOf, secondFits, isGate, gateFits, readsBelow, gateRefusal, gateOf, isOutput, outputFits, outputRefusal, outputOf, isFault, pairInRange, pairFits, faultFits, linesExist, risesAt, linesRise, faultRefusal, stuckAt, faultOf}
+use Rattle.statements.specs.Items.{noGate, noOutput, free, sound}
+use Rattle.statements.specs.Lines.{unless, refusalOf, inRange, valueAt, isLine, fits, faultWord, isHead, headFits, headRefusal, headOf, kindOf, secondFits, isGate, gateFits, readsBelow, gateRefusal, gateOf, isOutput, outputFits, outputRefusal, outputOf, isFault, pairInRange, pairFits, faultFits, linesExist, risesAt, linesRise, faultRefusal, stuckAt, faultOf}
+use Rattle.statements.specs.declared.Fault.{Fault}
+use Rattle.statements.specs.declared.Gate.{Gate}
+use Rattle.statements.specs.declared.Head.{Head}
+use Rattle.statements.specs.declared.Kind.{Kind}
+use Rattle.statements.specs.declared.Kind.the-variants.{And, Or, Nand, Nor, Xor, Xnor, Not}
+use Rattle.statements.specs.declared.Output.{Output}
+use Rattle.statements.specs.declared.Stuck.{Stuck}
+use Rattle.netlist.specs.Circuits.{Netlist, netlistOf}
 use Rattle.netlist.specs.Parsing.{Read, items, refused, lineRefusal, linesOf, nthGateRefusal, nthOutputRefusal, nthFaultRefusal, gatesIn, outputsIn, faultsIn, Parse, accepted, rejected, onRead, endOf, bodyOf, parseOf, meaning}
 use Rattle.netlist.specs.WellFormed.{SecondRight, GateRight, OutputRight, Above, FaultRight, WellFormed}
-use Rattle.netlist.specs.declared.Fault.{Fault}
-use Rattle.netlist.specs.declared.Gate.{Gate}
-use Rattle.netlist.specs.declared.Head.{Head}
-use Rattle.netlist.specs.declared.Kind.{Kind}
-use Rattle.netlist.specs.declared.Kind.the-variants.{And, Or, Nand, Nor, Xor, Xnor, Not}
-use Rattle.netlist.specs.declared.Output.{Output}
 use Rattle.netlist.specs.declared.Parsed.{Parsed}
-use Rattle.netlist.specs.declared.Stuck.{Stuck}
 
 -- tests joined
 

@@ -11,14 +11,14 @@ use lib.ListN.{length, take, drop, length-drop}
 use borrow.Author.Tests.{lt-ltb, le-ltb, eq-eqb, ne-eqb}
 use Rattle.text.specs.Text.{indexOf, before, lineEnd}
 use Rattle.text.proofs.Parts.{cut-before, cut-after, cut-has, cut-none}
+use Rattle.statements.specs.Lines.{headRefusal, headOf, gateOf, outputOf, faultOf}
+use Rattle.statements.specs.declared.Fault.{Fault}
+use Rattle.statements.specs.declared.Gate.{Gate}
+use Rattle.statements.specs.declared.Head.{Head}
+use Rattle.statements.specs.declared.Output.{Output}
 use Rattle.netlist.specs.Circuits.{netlistOf}
-use Rattle.netlist.specs.Lines.{headRefusal, headOf, gateOf, outputOf, faultOf}
 use Rattle.netlist.specs.Parsing.{linesOf, nthGateRefusal, nthOutputRefusal, nthFaultRefusal, gatesIn, outputsIn, faultsIn, accepted, rejected, endOf, bodyOf, parseOf, meaning}
 use Rattle.netlist.specs.Steps.{readOf}
-use Rattle.netlist.specs.declared.Fault.{Fault}
-use Rattle.netlist.specs.declared.Gate.{Gate}
-use Rattle.netlist.specs.declared.Head.{Head}
-use Rattle.netlist.specs.declared.Output.{Output}
 use Rattle.netlist.specs.declared.Parsed.{Parsed}
 use Rattle.netlist.proofs.LineLoops.{read-refused, read-done}
 

@@ -15,12 +15,12 @@ use Rattle.text.specs.Text.{indexOf, fieldCount}
 use Rattle.text.specs.Writing.{numbersOf, lineOf}
 use Rattle.text.proofs.Decimals.{or-true}
 use Rattle.text.proofs.WrittenLines.{Small, line-short}
+use Rattle.statements.specs.Items.{free}
+use Rattle.statements.specs.Lines.{valueAt, isLine, refusalOf, faultWord, isFault, pairInRange, pairFits, faultFits, linesExist, risesAt, linesRise, faultRefusal, stuckAt, faultOf}
+use Rattle.statements.specs.declared.Fault.{Fault}
+use Rattle.statements.specs.declared.Stuck.{Stuck}
 use Rattle.netlist.specs.CircuitText.{pairOf, faultLine}
-use Rattle.netlist.specs.Circuits.{free}
-use Rattle.netlist.specs.Lines.{valueAt, isLine, refusalOf, faultWord, isFault, pairInRange, pairFits, faultFits, linesExist, risesAt, linesRise, faultRefusal, stuckAt, faultOf}
 use Rattle.netlist.specs.WellFormed.{Above, FaultRight}
-use Rattle.netlist.specs.declared.Fault.{Fault}
-use Rattle.netlist.specs.declared.Stuck.{Stuck}
 use Rattle.netlist.proofs.Acceptance.{free-line}
 use Rattle.netlist.proofs.LinesWritten.{Told, plain-count, plain-value, plain-line, in-range}
 

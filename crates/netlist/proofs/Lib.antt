@@ -2,7 +2,6 @@ pub mod Acceptance
 pub mod Assembling
 pub mod FaultsWritten
 pub mod LineLoops
-pub mod LineTests
 pub mod LinesWritten
 pub mod Refusals
 pub mod Written

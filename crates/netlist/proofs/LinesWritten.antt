@@ -12,19 +12,20 @@ use native.Mathlib.Omega.{arith}
 use lib.IntN.{ℤ, pos, natAbs}
 use lib.ListN.{length, getD, length-map, List·getD-eq-default}
 use borrow.Author.Tests.{lt-ltb, le-leb, eq-eqb}
-use Rattle.text.specs.Text.{comma, lineEnd, indexOf, fieldOf, fieldCount, sameBytes, numberOf}
+use Rattle.text.specs.Text.{comma, lineEnd, indexOf, fieldOf, fieldCount, numberOf}
 use Rattle.text.specs.Writing.{numbersOf, lineOf}
 use Rattle.text.proofs.Words.{same-self}
 use Rattle.text.proofs.WrittenLines.{Lacks, Small, lacks-append, first-field, next-field, next-count, word-field, line-count, natural-field, line-short}
-use Rattle.netlist.specs.CircuitText.{headLine, kindWord, gateLine, outputLine}
+use Rattle.statements.specs.Lines.{isNumber, valueAt, numbersFrom, isLine, inRange, fits, refusalOf, circuitWord, gateWord, outputWord, kindWord, isHead, headFits, headRefusal, headOf, isGate, secondFits, gateFits, readsBelow, gateRefusal, gateOf, isOutput, outputFits, outputRefusal, outputOf}
+use Rattle.statements.specs.declared.Gate.{Gate}
+use Rattle.statements.specs.declared.Head.{Head}
+use Rattle.statements.specs.declared.Kind.{Kind}
+use Rattle.statements.specs.declared.Kind.the-variants.{And, Or, Nand, Nor, Xor, Xnor, Not}
+use Rattle.statements.specs.declared.Output.{Output}
+use Rattle.statements.proofs.KindWords.{KindWritten, kind-written}
+use Rattle.netlist.specs.CircuitText.{headLine, gateLine, outputLine}
 use Rattle.netlist.specs.Circuits.{Netlist}
-use Rattle.netlist.specs.Lines.{isNumber, valueAt, numbersFrom, isLine, inRange, fits, refusalOf, circuitWord, gateWord, outputWord, isHead, headFits, headRefusal, headOf, isKind, kindOf, isGate, secondFits, gateFits, readsBelow, gateRefusal, gateOf, isOutput, outputFits, outputRefusal, outputOf}
 use Rattle.netlist.specs.WellFormed.{SecondRight, GateRight, OutputRight, WellFormed}
-use Rattle.netlist.specs.declared.Gate.{Gate}
-use Rattle.netlist.specs.declared.Head.{Head}
-use Rattle.netlist.specs.declared.Kind.{Kind}
-use Rattle.netlist.specs.declared.Kind.the-variants.{And, Or, Nand, Nor, Xor, Xnor, Not}
-use Rattle.netlist.specs.declared.Output.{Output}
 use Rattle.netlist.proofs.Acceptance.{absent}
 
 -- `text` is a line, with its end, that is not refused and says x
@@ -117,23 +118,6 @@ head-told n w =
     at k = plain-value circuitWord ns small refl k
 
 -- ---- gates
-
-pub record KindWritten (k : Kind) : Type 0 where
-  pub known : isKind (kindWord k) ≡ true
-  pub read : kindOf (kindWord k) ≡ k
-  pub one-field : Lacks comma (kindWord k)
-  pub one-line : Lacks lineEnd (kindWord k)
-  pub short : length (kindWord k) ≤ 4
-
-kind-written : (k : Kind) → KindWritten k
-unfolding kindWord isKind kindOf sameBytes indexOf
-kind-written And = record { known = refl; read = refl; one-field = refl; one-line = refl; short = omega arith }
-kind-written Or = record { known = refl; read = refl; one-field = refl; one-line = refl; short = omega arith }
-kind-written Nand = record { known = refl; read = refl; one-field = refl; one-line = refl; short = omega arith }
-kind-written Nor = record { known = refl; read = refl; one-field = refl; one-line = refl; short = omega arith }
-kind-written Xor = record { known = refl; read = refl; one-field = refl; one-line = refl; short = omega arith }
-kind-written Xnor = record { known = refl; read = refl; one-field = refl; one-line = refl; short = omega arith }
-kind-written Not = record { known = refl; read = refl; one-field = refl; one-line = refl; short = omega arith }
 
 second-fits : (k : Kind) (b : ℕ) → SecondRight k b → b ≤ 56 → secondFits k b ≡ true
 unfolding secondFits

@@ -11,12 +11,12 @@ use lib.Dec.{eqb, ltb, lit≤}
 use lib.ListN.{length}
 use borrow.Author.Tests.{ltb-true, eqb-true, eqb-false}
 use Rattle.text.specs.Text.{before, after, has, lineEnd}
-use Rattle.netlist.specs.Lines.{unless, refusalOf, isHead, headFits, headRefusal, headOf, isGate, gateFits, readsBelow, gateRefusal, gateOf, isOutput, outputFits, outputRefusal, outputOf, isFault, faultFits, linesExist, linesRise, faultRefusal, faultOf}
+use Rattle.statements.specs.Lines.{unless, refusalOf, isHead, headFits, headRefusal, headOf, isGate, gateFits, readsBelow, gateRefusal, gateOf, isOutput, outputFits, outputRefusal, outputOf, isFault, faultFits, linesExist, linesRise, faultRefusal, faultOf}
+use Rattle.statements.specs.declared.Fault.{Fault}
+use Rattle.statements.specs.declared.Gate.{Gate}
+use Rattle.statements.specs.declared.Head.{Head}
+use Rattle.statements.specs.declared.Output.{Output}
 use Rattle.netlist.specs.Parsing.{Read, items, refused, lineRefusal, linesOf, nthGateRefusal, nthOutputRefusal, nthFaultRefusal, gatesIn, outputsIn, faultsIn, Parse, accepted, rejected, onRead, endOf, bodyOf, parseOf}
-use Rattle.netlist.specs.declared.Fault.{Fault}
-use Rattle.netlist.specs.declared.Gate.{Gate}
-use Rattle.netlist.specs.declared.Head.{Head}
-use Rattle.netlist.specs.declared.Output.{Output}
 use Rattle.netlist.proofs.Acceptance.{isRead, isAccepted, HeadRight, head-fits}
 use Rattle.netlist.proofs.Assembling.{too-long}
 

@@ -16,12 +16,13 @@ use Rattle.text.specs.Text.{before, after, has, lineEnd}
 use Rattle.text.specs.Writing.{gather, numbersOf}
 use Rattle.text.proofs.WrittenLines.{gather-cons, line-has, line-before, line-after}
 use Rattle.text.proofs.Writings.{gather-length}
+use Rattle.statements.specs.Items.{noGate, noOutput, sound}
+use Rattle.statements.specs.Lines.{headRefusal, headOf, gateOf, outputOf, faultOf}
+use Rattle.statements.specs.declared.Head.{Head}
 use Rattle.netlist.specs.CircuitText.{headLine, gateLine, outputLine, faultLine, eachLine, textOf}
-use Rattle.netlist.specs.Circuits.{Netlist, noGate, noOutput, sound}
-use Rattle.netlist.specs.Lines.{headRefusal, headOf, gateOf, outputOf, faultOf}
+use Rattle.netlist.specs.Circuits.{Netlist}
 use Rattle.netlist.specs.Parsing.{items, linesOf, nthGateRefusal, nthOutputRefusal, nthFaultRefusal, gatesIn, outputsIn, faultsIn, accepted, endOf, bodyOf, parseOf}
 use Rattle.netlist.specs.WellFormed.{WellFormed, topOf}
-use Rattle.netlist.specs.declared.Head.{Head}
 use Rattle.netlist.proofs.Acceptance.{well-formed}
 use Rattle.netlist.proofs.FaultsWritten.{fault-told}
 use Rattle.netlist.proofs.LinesWritten.{Told, headWritten, head-told, gate-told, output-told}

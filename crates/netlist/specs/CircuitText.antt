@@ -10,28 +10,17 @@ use lib.IntN.{ℤ, pos}
 use lib.ListN.{length, getD}
 use Rattle.text.specs.Text.{comma}
 use Rattle.text.specs.Writing.{gather, lineOf}
-use Rattle.netlist.specs.Circuits.{Netlist, noGate, noOutput, sound}
-use Rattle.netlist.specs.Lines.{circuitWord, gateWord, outputWord, faultWord, andWord, orWord, nandWord, norWord, xorWord, xnorWord, notWord}
-use Rattle.netlist.specs.declared.Fault.{Fault}
-use Rattle.netlist.specs.declared.Gate.{Gate}
-use Rattle.netlist.specs.declared.Kind.{Kind}
-use Rattle.netlist.specs.declared.Kind.the-variants.{And, Or, Nand, Nor, Xor, Xnor, Not}
-use Rattle.netlist.specs.declared.Output.{Output}
-use Rattle.netlist.specs.declared.Stuck.{Stuck}
+use Rattle.statements.specs.Items.{noGate, noOutput, sound}
+use Rattle.statements.specs.Lines.{circuitWord, gateWord, outputWord, faultWord, kindWord}
+use Rattle.statements.specs.declared.Fault.{Fault}
+use Rattle.statements.specs.declared.Gate.{Gate}
+use Rattle.statements.specs.declared.Output.{Output}
+use Rattle.statements.specs.declared.Stuck.{Stuck}
+use Rattle.netlist.specs.Circuits.{Netlist}
 
 unfoldable pub headLine : Netlist → List ℕ
 headLine n =
     lineOf circuitWord (pos (n .inputs) ∷ pos (length (n .gates)) ∷ pos (length (n .outputs)) ∷ pos (length (n .faults)) ∷ pos (n .cap) ∷ [])
-
--- "KIND is `and`, `or`, `nand`, `nor`, `xor`, `xnor` or `not`"
-unfoldable pub kindWord : Kind → List ℕ
-kindWord And = andWord
-kindWord Or = orWord
-kindWord Nand = nandWord
-kindWord Nor = norWord
-kindWord Xor = xorWord
-kindWord Xnor = xnorWord
-kindWord Not = notWord
 
 unfoldable pub gateLine : Gate → List ℕ
 gateLine g = lineOf (gateWord ++ (comma ∷ kindWord (g .kind))) (pos (g .a) ∷ pos (g .b) ∷ [])

@@ -1,6 +1,5 @@
 pub mod CircuitText
 pub mod Circuits
-pub mod Lines
 pub mod Parsing
 pub mod Steps
 pub mod WellFormed

@@ -6,12 +6,12 @@ use mathlib.Core.List.{List, [], _∷_, _++_}
 use lib.Dec.{eqb, ltb}
 use lib.ListN.{length}
 use Rattle.text.specs.Text.{before, after, has, lineEnd}
+use Rattle.statements.specs.Lines.{unless, headRefusal, headOf, gateRefusal, gateOf, outputRefusal, outputOf, faultRefusal, faultOf}
+use Rattle.statements.specs.declared.Fault.{Fault}
+use Rattle.statements.specs.declared.Gate.{Gate}
+use Rattle.statements.specs.declared.Head.{Head}
+use Rattle.statements.specs.declared.Output.{Output}
 use Rattle.netlist.specs.Circuits.{Netlist, netlistOf}
-use Rattle.netlist.specs.Lines.{unless, headRefusal, headOf, gateRefusal, gateOf, outputRefusal, outputOf, faultRefusal, faultOf}
-use Rattle.netlist.specs.declared.Fault.{Fault}
-use Rattle.netlist.specs.declared.Gate.{Gate}
-use Rattle.netlist.specs.declared.Head.{Head}
-use Rattle.netlist.specs.declared.Output.{Output}
 use Rattle.netlist.specs.declared.Parsed.{Parsed}
 
 -- the next line is refused by 2 where it has no end, else by its own tests

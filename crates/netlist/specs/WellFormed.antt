@@ -5,13 +5,14 @@ use mathlib.Core.Logic.{_⊎_}
 use mathlib.Core.Path.{_≡_}
 use lib.IntN.{pos, natAbs}
 use lib.ListN.{length, getD}
-use Rattle.netlist.specs.Circuits.{Netlist, noGate, noOutput, free, sound}
-use Rattle.netlist.specs.declared.Fault.{Fault}
-use Rattle.netlist.specs.declared.Gate.{Gate}
-use Rattle.netlist.specs.declared.Kind.{Kind}
-use Rattle.netlist.specs.declared.Kind.the-variants.{And, Or, Nand, Nor, Xor, Xnor, Not}
-use Rattle.netlist.specs.declared.Output.{Output}
-use Rattle.netlist.specs.declared.Stuck.{Stuck}
+use Rattle.statements.specs.Items.{noGate, noOutput, free, sound}
+use Rattle.statements.specs.declared.Fault.{Fault}
+use Rattle.statements.specs.declared.Gate.{Gate}
+use Rattle.statements.specs.declared.Kind.{Kind}
+use Rattle.statements.specs.declared.Kind.the-variants.{And, Or, Nand, Nor, Xor, Xnor, Not}
+use Rattle.statements.specs.declared.Output.{Output}
+use Rattle.statements.specs.declared.Stuck.{Stuck}
+use Rattle.netlist.specs.Circuits.{Netlist}
 
 -- "B is 1 to 56, and 0 for `not`"
 abbrev pub SecondRight : Kind → ℕ → Type 0

@@ -1,19 +1,18 @@
 // The circuit text, line by line.
 use crate::Circuit;
-use crate::Fault;
-use crate::Gate;
-use crate::Head;
-use crate::Kind;
-use crate::Output;
 use crate::Parsed;
-use crate::Stuck;
-use crate::lines;
+use statements::Fault;
+use statements::Gate;
+use statements::Head;
+use statements::Kind;
+use statements::Output;
+use statements::Stuck;
 ghost use mathlib.Core.Path.{_≡_};
 ghost use mathlib.Core.List.{[]};
 ghost use Prim.Native.Nat.{_≤_, _+_};
 ghost use lib.ListN.{drop};
+ghost use Rattle.statements.specs.Lines.{gateOf, outputOf, faultOf};
 ghost use Rattle.netlist.specs.Circuits.{Sized};
-ghost use Rattle.netlist.specs.Lines.{gateOf, outputOf, faultOf};
 ghost use Rattle.netlist.specs.Parsing.{linesOf, nthGateRefusal, nthOutputRefusal, nthFaultRefusal, bodyOf, parseOf, meaning};
 ghost use Rattle.netlist.specs.Steps.{readOf};
 
@@ -61,7 +60,7 @@ fn gates(text: &[u8], from: usize, inputs: usize, count: usize) -> GateLines
                 gates,
             };
         }
-        let said = lines::gate_line(inputs + j + 1, &text[at..end]);
+        let said = statements::gate_line(inputs + j + 1, &text[at..end]);
         let number = said.number;
         if number != 0 {
             return GateLines {
@@ -102,7 +101,7 @@ fn outputs(text: &[u8], from: usize, top: usize, count: usize, place: usize) -> 
                 outputs,
             };
         }
-        let said = lines::output_line(top, &text[at..end]);
+        let said = statements::output_line(top, &text[at..end]);
         let number = said.number;
         if number != 0 {
             return OutputLines {
@@ -151,7 +150,7 @@ fn faults(text: &[u8], from: usize, top: usize, count: usize, place: usize) -> F
                 faults,
             };
         }
-        let said = lines::fault_line(top, &text[at..end]);
+        let said = statements::fault_line(top, &text[at..end]);
         let number = said.number;
         if number != 0 {
             return FaultLines {
@@ -258,7 +257,7 @@ pub fn parse(text: &[u8]) -> Parsed
     if text.len() <= end {
         return refused(2, 1);
     }
-    let said = lines::head_line(&text[0..end]);
+    let said = statements::head_line(&text[0..end]);
     let number = said.number;
     if number != 0 {
         return refused(number, 1);

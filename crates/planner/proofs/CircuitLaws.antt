@@ -16,11 +16,11 @@ use Rattle.netlist.specs.Circuits.{Netlist, netlistOf, Sized, faultAt}
 use Rattle.netlist.specs.Parsing.{accepted, parseOf, meaning}
 use Rattle.simulation.specs.Rows.{rowsOf}
 use Rattle.netlist.specs.WellFormed.{WellFormed}
-use Rattle.netlist.specs.declared.Fault.{Fault}
 use Rattle.netlist.specs.declared.Parsed.{Parsed}
 use Rattle.netlist.proofs.Acceptance.{well-formed, accepted-as}
 use Rattle.netlist.proofs.Assembling.{meant}
 use Rattle.simulation.proofs.RowBounds.{rows-few, rows-bounded}
+use Rattle.statements.specs.declared.Fault.{Fault}
 use Rattle.walsh.specs.Answers.{screenOf, inputsOf}
 use Rattle.walsh.specs.Lists.{spectrumAnswer}
 use Rattle.walsh.specs.Spectrum.{spectrumOf}

@@ -18,13 +18,14 @@ use Rattle.cover.specs.Sets.{distinct, precedes, fourOf}
 use Rattle.cover.proofs.Signatures.{Covering, silent-at, silent-before, silent-none, signature-found, signature-ordered, signature-least, signature-none, signature-first}
 use Rattle.integer.specs.Tab.{nth}
 use Rattle.integer.proofs.Tabs.{getD-tab, tab-ext}
-use Rattle.netlist.specs.Circuits.{Netlist, sound, faultAt}
+use Rattle.netlist.specs.Circuits.{Netlist, faultAt}
 use Rattle.netlist.specs.Parsing.{accepted, parseOf}
 use Rattle.netlist.specs.WellFormed.{WellFormed}
-use Rattle.netlist.specs.declared.Fault.{Fault}
 use Rattle.netlist.proofs.Acceptance.{well-formed}
 use Rattle.simulation.specs.Rows.{rowValue, rowsOf}
 use Rattle.simulation.proofs.RowBounds.{length-rows}
+use Rattle.statements.specs.Items.{sound}
+use Rattle.statements.specs.declared.Fault.{Fault}
 use Rattle.walsh.specs.Spectrum.{coefficientOf}
 use Rattle.planner.specs.PlanCall.{Verdict, refused, planned, soundRows, faultedRows, searched, silentFirst, verdictOf, workDue, planIn, planVerdict, planNumbers, planAnswer}
 use Rattle.planner.specs.Demand.{Named, Shows, Possible, Silent, SomeSilent, Right}

@@ -8,8 +8,9 @@ use native.Mathlib.Numerals.{add-one}
 use native.Mathlib.Omega.{arith}
 use lib.ListN.{length, getD, length-map}
 use Rattle.cover.specs.Cover.{faultRows}
-use Rattle.netlist.specs.Circuits.{Netlist, sound, faultAt}
+use Rattle.netlist.specs.Circuits.{Netlist, faultAt}
 use Rattle.simulation.specs.Rows.{rowsOf}
+use Rattle.statements.specs.Items.{sound}
 use Rattle.planner.specs.PlanCall.{faultedRows}
 
 at-mapped : {A B : Type 0} (f : A → B) (l : List A) (i : ℕ) (d : A) (e : B) → i < length l → getD (map f l) i e ≡ f (getD l i d)

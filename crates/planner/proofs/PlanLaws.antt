@@ -34,7 +34,7 @@ use Rattle.cover.proofs.Signatures.{found-is, signature-found}
 use Rattle.integer.specs.Tab.{Within}
 use Rattle.integer.proofs.Bools.{clash}
 use Rattle.integer.proofs.Firsts.{first-le, first-hit, first-none}
-use Rattle.netlist.specs.Circuits.{Netlist, netlistOf, Sized, sound, faultAt}
+use Rattle.netlist.specs.Circuits.{Netlist, netlistOf, Sized, faultAt}
 use Rattle.netlist.specs.Parsing.{parseOf, meaning}
 use Rattle.netlist.specs.WellFormed.{WellFormed}
 use Rattle.netlist.specs.declared.Circuit.{Circuit}
@@ -46,6 +46,7 @@ use Rattle.planner.specs.PlanCall.{Verdict, refused, soundRows, faultedR
 use Rattle.planner.specs.declared.Planned.{Planned}
 use Rattle.simulation.proofs.Counts.{due, due-is, due-few}
 use Rattle.netlist.proofs.Acceptance.{accepted-as}
+use Rattle.statements.specs.Items.{sound}
 use Rattle.planner.proofs.FaultRows.{fault-rows-next, fault-count}
 
 -- Marking the faults.

@@ -9,8 +9,9 @@ use mathlib.Core.Path.{_≡_}
 use lib.ListN.{length, take, getD}
 use Rattle.cover.specs.Order.{rising}
 use Rattle.cover.specs.Sets.{distinct, precedes}
-use Rattle.netlist.specs.Circuits.{Netlist, sound, faultAt}
+use Rattle.netlist.specs.Circuits.{Netlist, faultAt}
 use Rattle.simulation.specs.Rows.{rowValue, rowsOf}
+use Rattle.statements.specs.Items.{sound}
 use Rattle.walsh.specs.Spectrum.{coefficientOf}
 use Rattle.planner.specs.declared.Planned.{Planned}
 

@@ -13,9 +13,10 @@ use lib.IntN.{ℤ}
 use lib.ListN.{length, drop}
 use Rattle.cover.specs.Cover.{firstSilent, signatureOf}
 use Rattle.cover.specs.Sets.{fourOf}
-use Rattle.netlist.specs.Circuits.{Netlist, sound}
+use Rattle.netlist.specs.Circuits.{Netlist}
 use Rattle.netlist.specs.Parsing.{Parse, accepted, rejected, parseOf}
 use Rattle.simulation.specs.Rows.{rowsOf}
+use Rattle.statements.specs.Items.{sound}
 use Rattle.planner.specs.declared.Planned.{Planned}
 
 abbrev pub soundRows : Netlist → List ℤ

@@ -1,6 +1,6 @@
 // A circuit's spectrum, sound or under one of its faults.
 use netlist::Circuit;
-use netlist::Fault;
+use statements::Fault;
 use walsh::Answer;
 ghost use mathlib.Core.Path.{_≡_};
 ghost use Prim.Native.Nat.{_^_, _≤_};

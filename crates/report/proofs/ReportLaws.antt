@@ -21,7 +21,7 @@ use Rattle.cover.specs.Cover.{signatureOf}
 use Rattle.cover.specs.Steps.{Below}
 use Rattle.cover.proofs.LabelOrder.{at-mem}
 use Rattle.cover.proofs.Signatures.{signature-found}
-use Rattle.netlist.specs.Circuits.{Netlist, netlistOf, sound as unfaulted}
+use Rattle.netlist.specs.Circuits.{Netlist, netlistOf}
 use Rattle.netlist.specs.Parsing.{Parse, accepted, rejected, parseOf, meaning}
 use Rattle.netlist.specs.WellFormed.{WellFormed}
 use Rattle.netlist.specs.declared.Parsed.{Parsed}
@@ -29,6 +29,7 @@ use Rattle.netlist.proofs.Acceptance.{well-formed, accepted-as}
 use Rattle.netlist.proofs.Assembling.{meant}
 use Rattle.netlist.proofs.Refusals.{text-refused}
 use Rattle.simulation.proofs.RowBounds.{length-rows}
+use Rattle.statements.specs.Items.{sound as unfaulted}
 use Rattle.text.specs.Writing.{placed, gather}
 use Rattle.text.proofs.Writings.{length-placed, placed-more, placed-front, gather-length}
 use Rattle.planner.specs.PlanCall.{Verdict, refused, planned, soundRows, faultedRows, searched, silentFirst, verdictOf, workDue, planVerdict, planNumbers, WorkKept}

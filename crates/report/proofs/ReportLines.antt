@@ -27,12 +27,13 @@ use Rattle.integer.specs.First.{firstWhere}
 use Rattle.integer.specs.Tab.{nth, Within}
 use Rattle.integer.proofs.Firsts.{first-ext, first-hit, first-none}
 use Rattle.integer.proofs.Machine.{reads}
-use Rattle.netlist.specs.Circuits.{Netlist, faultAt, sound as unfaulted}
-use Rattle.netlist.specs.Lines.{faultWord}
+use Rattle.netlist.specs.Circuits.{Netlist, faultAt}
 use Rattle.netlist.specs.WellFormed.{WellFormed}
-use Rattle.netlist.specs.declared.Fault.{Fault}
 use Rattle.simulation.specs.Rows.{rowsOf}
 use Rattle.simulation.proofs.RowBounds.{length-rows}
+use Rattle.statements.specs.Items.{sound as unfaulted}
+use Rattle.statements.specs.Lines.{faultWord}
+use Rattle.statements.specs.declared.Fault.{Fault}
 use Rattle.text.specs.Writing.{placed, gather, lineOf}
 use Rattle.text.proofs.Writings.{natural-length, integer-length, gather-ext, line-one, line-two, line-three}
 use Rattle.walsh.specs.Answers.{leaves}

@@ -12,8 +12,8 @@ use lib.ListN.{length, getD, drop}
 use Rattle.cover.specs.Cover.{covers, faultRows}
 use Rattle.integer.specs.First.{firstWhere}
 use Rattle.netlist.specs.Circuits.{Netlist}
-use Rattle.netlist.specs.Lines.{faultWord}
 use Rattle.netlist.specs.Parsing.{Parse, accepted, rejected, parseOf}
+use Rattle.statements.specs.Lines.{faultWord}
 use Rattle.text.specs.Writing.{gather, lineOf}
 use Rattle.walsh.specs.Spectrum.{coefficientOf}
 use Rattle.planner.specs.PlanCall.{Verdict, refused, planned, soundRows, faultedRows, workDue, verdictOf, planVerdict}

@@ -15,10 +15,11 @@ use lib.Dec.{ltb}
 use lib.ListN.{length, take, getD, set, replicate, List·getD-eq-default}
 use lib.Seq.{getD-set-same, getD-set-other, getD-append-seam, length-take-le}
 use Rattle.integer.specs.Tab.{tab}
-use Rattle.netlist.specs.Circuits.{Sized, noGate}
+use Rattle.netlist.specs.Circuits.{Sized}
 use Rattle.netlist.specs.declared.Circuit.{Circuit}
-use Rattle.netlist.specs.declared.Fault.{Fault}
-use Rattle.netlist.specs.declared.Gate.{Gate}
+use Rattle.statements.specs.Items.{noGate}
+use Rattle.statements.specs.declared.Fault.{Fault}
+use Rattle.statements.specs.declared.Gate.{Gate}
 use Rattle.simulation.specs.Rows.{gateValue, shown, applied, inputValues, reads, gateNext, gatesNext}
 use Rattle.simulation.specs.Steps.{shownAt, seenAs, Columned, inputRule, gateRule, Columns, inputLines, slotOf}
 use Rattle.simulation.specs.declared.Seen.{Seen}

@@ -11,10 +11,11 @@ use native.Mathlib.Omega.{arith}
 use lib.ListN.{length, getD, List·getD-append}
 use lib.Seq.{getD-append-seam}
 use Rattle.integer.proofs.Tabs.{getD-tab}
-use Rattle.netlist.specs.Circuits.{Netlist, noGate}
+use Rattle.netlist.specs.Circuits.{Netlist}
 use Rattle.netlist.specs.WellFormed.{WellFormed}
-use Rattle.netlist.specs.declared.Fault.{Fault}
-use Rattle.netlist.specs.declared.Gate.{Gate}
+use Rattle.statements.specs.Items.{noGate}
+use Rattle.statements.specs.declared.Fault.{Fault}
+use Rattle.statements.specs.declared.Gate.{Gate}
 use Rattle.simulation.specs.Rows.{gateValue, shown, applied, inputShown, inputValues, reads, gateNext, gatesNext, lineValues}
 use Rattle.simulation.proofs.LineValues.{length-inputs, length-next}
 

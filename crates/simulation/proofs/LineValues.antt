@@ -13,11 +13,12 @@ use lib.ListN.{length, take, getD, length-append, length-take}
 use lib.Seq.{take-suc, getD-take}
 use Rattle.integer.specs.Tab.{tab}
 use Rattle.integer.proofs.Tabs.{length-tab}
-use Rattle.netlist.specs.Circuits.{netlistOf, Sized, faultAt, noGate, sound}
+use Rattle.netlist.specs.Circuits.{netlistOf, Sized, faultAt}
 use Rattle.simulation.specs.Rows.{gateValue, shown, inputShown, inputValues, reads, gateNext, gatesNext, lineValues}
 use Rattle.netlist.specs.declared.Circuit.{Circuit}
-use Rattle.netlist.specs.declared.Fault.{Fault}
-use Rattle.netlist.specs.declared.Gate.{Gate}
+use Rattle.statements.specs.Items.{noGate, sound}
+use Rattle.statements.specs.declared.Fault.{Fault}
+use Rattle.statements.specs.declared.Gate.{Gate}
 
 module _ (f : Fault) (x : ℕ) where
   pub length-inputs : (n : ℕ) → length (inputValues f x n) ≡ n + 1

@@ -8,10 +8,10 @@ use mathlib.Core.Logic.{inl, inr}
 use Prim.Native.Nat.{ℕ, _≤_}
 use native.Mathlib.Omega.{arith}
 use borrow.Author.Tests.{eq-eqb, ne-eqb}
-use Rattle.netlist.specs.Circuits.{sound}
 use Rattle.netlist.specs.WellFormed.{Above, FaultRight}
-use Rattle.netlist.specs.declared.Fault.{Fault}
 use Rattle.netlist.proofs.Acceptance.{free-line}
+use Rattle.statements.specs.Items.{sound}
+use Rattle.statements.specs.declared.Fault.{Fault}
 use Rattle.simulation.specs.Rows.{stuckOr, shown}
 
 module _ (f : Fault) (v : Bool) where

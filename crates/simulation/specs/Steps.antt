@@ -14,10 +14,10 @@ use lib.Dec.{ltb}
 use lib.IntN.{ℤ}
 use lib.ListN.{getD}
 use Rattle.integer.specs.Sum.{sumTo}
-use Rattle.netlist.specs.Circuits.{noOutput}
-use Rattle.netlist.specs.declared.Fault.{Fault}
-use Rattle.netlist.specs.declared.Kind.{Kind}
-use Rattle.netlist.specs.declared.Output.{Output}
+use Rattle.statements.specs.Items.{noOutput}
+use Rattle.statements.specs.declared.Fault.{Fault}
+use Rattle.statements.specs.declared.Kind.{Kind}
+use Rattle.statements.specs.declared.Output.{Output}
 use Rattle.simulation.specs.Rows.{gateValue, applied, inputValues, reads, weighed}
 use Rattle.simulation.specs.declared.Seen.{Seen}
 

@@ -1,10 +1,10 @@
 // Simulation of a circuit: the rows of its outputs, sound or under a fault. Where a circuit comes from and what is done with its rows is the
 // business of other crates.
 use netlist::Circuit;
-use netlist::Fault;
-use netlist::Kind;
-use netlist::Output;
-use netlist::Stuck;
+use statements::Fault;
+use statements::Kind;
+use statements::Output;
+use statements::Stuck;
 ghost use mathlib.Core.Bool.{true, false};
 ghost use mathlib.Core.Path.{_≡_};
 ghost use Prim.Native.Nat.{_+_, _≤_, _<_, _^_};

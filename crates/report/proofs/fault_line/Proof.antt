@@ -10,9 +10,10 @@ use mir.Syntax.{w32}
 use mir.Val.{toZ, ofZ}
 use Rattle.integer.specs.Tab.{nth}
 use Rattle.integer.proofs.Tabs.{length-mapped}
-use Rattle.netlist.specs.Circuits.{Netlist, netlistOf, sound, faultAt}
-use Rattle.netlist.specs.Lines.{faultWord}
+use Rattle.netlist.specs.Circuits.{Netlist, netlistOf, faultAt}
 use Rattle.simulation.specs.Rows.{rowsOf}
+use Rattle.statements.specs.Items.{sound}
+use Rattle.statements.specs.Lines.{faultWord}
 use Rattle.text.specs.Writing.{lineOf}
 use Rattle.walsh.specs.Spectrum.{spectrumOf}
 use Rattle.planner.specs.PlanCall.{soundRows, faultedRows}

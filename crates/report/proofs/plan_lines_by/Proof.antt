@@ -7,7 +7,8 @@ use Prim.Native.Nat.{_+_}
 use lib.IntN.{ℤ}
 use lib.ListN.{length}
 use Rattle.integer.proofs.Tabs.{length-mapped}
-use Rattle.netlist.specs.Circuits.{Netlist, netlistOf, sound as unfaulted}
+use Rattle.netlist.specs.Circuits.{Netlist, netlistOf}
+use Rattle.statements.specs.Items.{sound as unfaulted}
 use Rattle.text.specs.Writing.{placed, gather}
 use Rattle.walsh.specs.Spectrum.{spectrumOf}
 use Rattle.planner.specs.PlanCall.{soundRows, faultedRows}

@@ -3,7 +3,7 @@ use borrow.Author.Needs.{needs}
 use mathlib.Core.Path.{_≡_, sym, ap}
 use mathlib.Core.Bool.{Bool, xor}
 use Rattle.simulation.specs.Rows.{gateValue}
-use Rattle.netlist.specs.declared.Kind.{Kind}
+use Rattle.statements.specs.declared.Kind.{Kind}
 use Rattle.simulation.proofs.gate_value.Statement.{statement}
 use Rattle.simulation.proofs.gate_value.Tie as tie
 

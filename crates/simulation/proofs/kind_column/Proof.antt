@@ -3,7 +3,7 @@ use borrow.Author.Needs.{needs}
 use mathlib.Core.Bool.{Bool}
 use mathlib.Core.List.{List}
 use mathlib.Core.Path.{_≡_, sym, subst}
-use Rattle.netlist.specs.declared.Kind.{Kind}
+use Rattle.statements.specs.declared.Kind.{Kind}
 use Rattle.simulation.specs.Steps.{Columned, gateRule}
 use Rattle.simulation.proofs.kind_column.Statement.{statement}
 use Rattle.simulation.proofs.kind_column.Tie as tie

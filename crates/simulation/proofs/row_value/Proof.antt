@@ -11,7 +11,7 @@ use mir.ValLaws.{toZ-ofZ}
 use Rattle.integer.specs.Sum.{sumTo}
 use Rattle.integer.proofs.Machine.{reads as read-back, add-fits, add-is}
 use Rattle.integer.proofs.Tabs.{length-mapped}
-use Rattle.netlist.specs.Circuits.{noOutput}
+use Rattle.statements.specs.Items.{noOutput}
 use Rattle.simulation.specs.Rows.{weighed}
 use Rattle.simulation.specs.Steps.{shownAt, readTerm, readSum}
 use Rattle.simulation.proofs.RowValues.{sum-room, sum-more, sum-small}

@@ -3,7 +3,7 @@ use borrow.Author.Needs.{needs}
 use denote.Ref.{now}
 use native.Mathlib.Omega.{arith}
 use Prim.Native.Nat.{_-_}
-use Rattle.netlist.specs.Lines.{outputOf}
+use Rattle.statements.specs.Lines.{outputOf}
 use Rattle.netlist.specs.Parsing.{nthOutputRefusal}
 use Rattle.netlist.proofs.LineLoops.{Reading, begun, turned, missing, declined, finished}
 use Rattle.netlist.proofs.parsing.outputs.Statement.{statement}

@@ -5,8 +5,8 @@ use lib.ListN.{drop}
 use mathlib.Core.Path.{sym, ap, _∙_, subst⁻¹}
 use native.Mathlib.Omega.{arith}
 use Prim.Native.Nat.{_+_}
+use Rattle.statements.specs.declared.Head.{Head}
 use Rattle.netlist.specs.Parsing.{bodyOf}
-use Rattle.netlist.specs.declared.Head.{Head}
 use Rattle.netlist.proofs.Acceptance.{HeadRight, head-fits}
 use Rattle.netlist.proofs.Assembling.{meant, too-long, no-head, head-stop, head-passed}
 use Rattle.netlist.proofs.parsing.parse.Statement.{statement}

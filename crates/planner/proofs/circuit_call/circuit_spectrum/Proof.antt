@@ -9,12 +9,12 @@ use lib.ListN.{length}
 use Rattle.integer.proofs.Tabs.{length-mapped}
 use Rattle.netlist.specs.Circuits.{netlistOf}
 use Rattle.simulation.specs.Rows.{rowsOf}
-use Rattle.netlist.specs.declared.Fault.{Fault}
 use Rattle.walsh.specs.Answers.{leaves}
 use Rattle.walsh.specs.Spectrum.{spectrumOf}
 use Rattle.planner.specs.CircuitCall.{faultSpectrum}
 use Rattle.netlist.proofs.Acceptance.{accepted-right}
 use Rattle.simulation.proofs.RowBounds.{rows-in-range}
+use Rattle.statements.specs.declared.Fault.{Fault}
 use Rattle.planner.proofs.CircuitLaws.{text-stop, fault-stop, served, served-spectrum}
 use Rattle.planner.proofs.circuit_call.circuit_spectrum.Statement.{statement}
 use Rattle.planner.proofs.circuit_call.circuit_spectrum.Tie as tie
