@@ -47,6 +47,16 @@ pub const HALF_AND_A_ROW: &str = "circuit,8,7,1,1,1\n\
     gate,and,1,2\ngate,and,3,9\ngate,and,4,10\ngate,and,5,11\ngate,and,6,12\n\
     gate,and,7,13\ngate,or,8,14\noutput,15,1\nfault,14,0\n";
 
+/// The circuits of the paper's examples.
+pub const EXAMPLES: [&str; 6] = [
+    LISTING,
+    STUCK_INPUTS,
+    TWO_STUCK_INPUTS,
+    STUCK_INNER_LINE,
+    SILENT_FAULT,
+    TWO_OUTPUTS,
+];
+
 /// The text with its line `place` replaced.
 pub fn with_line(text: &str, place: usize, line: &str) -> Vec<u8> {
     let mut lines: Vec<&str> = text.lines().collect();

@@ -196,20 +196,20 @@ pub fn opened(coefficients: &[i32], values: &[u32], room: usize) -> Result<Vec<i
     Ok(results)
 }
 
+/// The rows of a function of n inputs; x[1] is input 1.
+pub fn rows_of(n: usize, function: impl Fn(&[bool]) -> bool) -> Vec<i32> {
+    (0..1 << n)
+        .map(|row: usize| {
+            let mut x = vec![false];
+            x.extend((0..n).map(|bit| row & (1 << bit) != 0));
+            i32::from(function(&x))
+        })
+        .collect()
+}
+
 #[cfg(test)]
 mod tests {
     use super::*;
-
-    /// The rows of a function of n inputs; x[1] is input 1.
-    fn rows_of(n: usize, function: impl Fn(&[bool]) -> bool) -> Vec<i32> {
-        (0..1 << n)
-            .map(|row: usize| {
-                let mut x = vec![false];
-                x.extend((0..n).map(|bit| row & (1 << bit) != 0));
-                i32::from(function(&x))
-            })
-            .collect()
-    }
 
     fn spectrum_of(rows: &[i32]) -> Vec<i32> {
         spectrum(rows, rows.len()).expect("rows in range")

@@ -9,7 +9,7 @@ use crate::circuits::{
 use crate::netlist::TEXT_LIMIT;
 use crate::plan::WORKING_NUMBERS;
 use crate::report::REPORT_ROOM;
-use crate::walsh;
+use crate::walsh::{self, rows_of};
 
 pub fn cases() -> Vec<Case> {
     let mut cases = unproved();
@@ -52,17 +52,6 @@ fn unproved() -> Vec<Case> {
         cases.push(Case::coefficient(&rows, 1));
     }
     cases
-}
-
-/// The rows of a function of n inputs; x[1] is input 1.
-fn rows_of(n: usize, function: impl Fn(&[bool]) -> bool) -> Vec<i32> {
-    (0..1 << n)
-        .map(|row: usize| {
-            let mut x = vec![false];
-            x.extend((0..n).map(|bit| row & (1 << bit) != 0));
-            i32::from(function(&x))
-        })
-        .collect()
 }
 
 fn of_lists() -> Vec<Case> {

@@ -1,8 +1,8 @@
 //! Texts of every kind for the stored reports.
 
 use crate::circuits::{
-    largest_report, near_labels, with_line, worst_search, Draft, Sizes, Sketch, DAMAGES, LISTING,
-    SILENT_FAULT, STUCK_INNER_LINE, STUCK_INPUTS, TWO_OUTPUTS, TWO_STUCK_INPUTS,
+    largest_report, near_labels, with_line, worst_search, Draft, Sizes, Sketch, DAMAGES, EXAMPLES,
+    LISTING, TWO_OUTPUTS,
 };
 use crate::netlist::parse;
 use crate::outcomes::answer;
@@ -37,19 +37,8 @@ fn chosen_texts() -> Vec<Vec<u8>> {
         "circuit,8,2,4,2,1\ngate,xnor,1,1\ngate,xor,1,1\n{}fault,9,0\nfault,10,1\n",
         "output,9,15\n".repeat(3) + "output,10,15\n"
     );
-    let mut texts: Vec<Vec<u8>> = [
-        LISTING,
-        STUCK_INPUTS,
-        TWO_STUCK_INPUTS,
-        STUCK_INNER_LINE,
-        SILENT_FAULT,
-        TWO_OUTPUTS,
-        &always,
-        "",
-        "\n",
-    ]
-    .map(|text| text.as_bytes().to_vec())
-    .into();
+    let plain = EXAMPLES.into_iter().chain([&always[..], "", "\n"]);
+    let mut texts: Vec<Vec<u8>> = plain.map(|text| text.as_bytes().to_vec()).collect();
     texts.extend([
         with_line(TWO_OUTPUTS, 1, "circuit,2,4,2,2,2"),
         with_line(LISTING, 1, "circuit,8,4,1,2,2"),

@@ -3,8 +3,7 @@
 use super::examples::every_call;
 use super::Case;
 use crate::circuits::{
-    with_line, Draft, Sizes, HALF_AND_A_ROW, LISTING, SILENT_FAULT, STUCK_INNER_LINE, STUCK_INPUTS,
-    TWO_OUTPUTS, TWO_STUCK_INPUTS,
+    with_line, Draft, Sizes, EXAMPLES, HALF_AND_A_ROW, LISTING, SILENT_FAULT, TWO_OUTPUTS,
 };
 use crate::netlist::parse;
 use crate::outcomes::answer;
@@ -13,17 +12,8 @@ use crate::random::Random;
 use crate::report::REPORT_ROOM;
 
 pub fn cases(random: &mut Random, texts: &[Vec<u8>]) -> Vec<Case> {
-    let mut good: Vec<Vec<u8>> = [
-        LISTING,
-        STUCK_INPUTS,
-        TWO_STUCK_INPUTS,
-        STUCK_INNER_LINE,
-        SILENT_FAULT,
-        TWO_OUTPUTS,
-        HALF_AND_A_ROW,
-    ]
-    .map(|text| text.as_bytes().to_vec())
-    .into();
+    let plain = EXAMPLES.into_iter().chain([HALF_AND_A_ROW]);
+    let mut good: Vec<Vec<u8>> = plain.map(|text| text.as_bytes().to_vec()).collect();
     good.push(with_line(LISTING, 6, "output,7,2"));
     for inputs in [1, 4, 6] {
         good.push(drawn_text(random, inputs));
