@@ -1,5 +1,5 @@
 -- Fault k of an accepted text:
---   fault-right                it is right for the circuit
+--   named-fault-right                it is right for the circuit
 --   spectrum-is, answer-is     what the circuit call writes and answers for it, from the circuit
 --   room-answer, room-enough   a call on a list that passes the tests before 8 asks for room only, as the circuit call does
 use mathlib.Core.Path.{_≡_}
@@ -13,17 +13,18 @@ use borrow.Author.Tests.{le-ltb, ne-eqb}
 use Rattle.integer.specs.Tab.{Within}
 use Rattle.netlist.specs.Circuits.{Netlist, faultAt}
 use Rattle.netlist.specs.Parsing.{accepted, parseOf}
-use Rattle.netlist.specs.WellFormed.{FaultRight, WellFormed, topOf}
+use Rattle.sections.specs.FaultLines.{FaultRight}
+use Rattle.netlist.specs.WellFormed.{WellFormed, topOf}
 use Rattle.simulation.specs.Rows.{rowsOf}
-use Rattle.walsh.specs.Answers.{minus, inputsOf, screenOf}
-use Rattle.walsh.specs.Spectrum.{spectrumOf}
-use Rattle.walsh.specs.declared.Answer.the-variants.{Done}
-use Rattle.walsh.proofs.Screens.{within-screened}
-use Rattle.planner.specs.CircuitCall.{roomAnswer, faultAnswer, circuitAnswer, faultSpectrum, circuitSpectrum}
+use Rattle.screen.specs.Answers.{minus, inputsOf, screenOf}
+use Rattle.transform.specs.Spectrum.{spectrumOf}
+use Rattle.screen.specs.declared.Answer.the-variants.{Done}
+use Rattle.screen.proofs.Screens.{within-screened}
+use Rattle.circuit.specs.CircuitCall.{roomAnswer, faultAnswer, circuitAnswer, faultSpectrum, circuitSpectrum}
 
-pub fault-right : (n : Netlist) (k : ℕ) → WellFormed n → 1 ≤ k → k ≤ length (n .faults) → FaultRight (topOf n) (faultAt n k)
-fault-right n zero w low high = absurd (omega arith)
-fault-right n (suc k) w low high = w .faults-right k (omega arith)
+pub named-fault-right : (n : Netlist) (k : ℕ) → WellFormed n → 1 ≤ k → k ≤ length (n .faults) → FaultRight (topOf n) (faultAt n k)
+named-fault-right n zero w low high = absurd (omega arith)
+named-fault-right n (suc k) w low high = w .faults-right k (omega arith)
 
 module _ (text : List ℕ) (n : Netlist) (parsed : parseOf text ≡ accepted n) (k : ℕ) where
   pub spectrum-is : circuitSpectrum text k ≡ spectrumOf (rowsOf n (faultAt n k))

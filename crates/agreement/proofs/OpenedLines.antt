@@ -19,27 +19,29 @@ use Rattle.integer.proofs.Bounds.{within-more}
 use Rattle.integer.proofs.Tabs.{length-tab, getD-tab, tab-ext}
 use Rattle.netlist.specs.Circuits.{Netlist, faultAt}
 use Rattle.netlist.specs.Parsing.{accepted, parseOf}
-use Rattle.netlist.specs.WellFormed.{FaultRight, WellFormed, topOf}
+use Rattle.sections.specs.FaultLines.{FaultRight}
+use Rattle.netlist.specs.WellFormed.{WellFormed, topOf}
 use Rattle.netlist.proofs.Acceptance.{well-formed}
-use Rattle.simulation.specs.Rows.{shown, applied, rowValue, rowsOf}
+use Rattle.gates.specs.Gates.{shown, applied}
+use Rattle.simulation.specs.Rows.{rowValue, rowsOf}
 use Rattle.simulation.proofs.RowBounds.{row-within}
 use Rattle.statements.specs.declared.Fault.{Fault}
-use Rattle.statements.specs.declared.Stuck.{Stuck as Pair}
-use Rattle.walsh.specs.Answers.{andThen, inputsOf}
-use Rattle.walsh.specs.Spectrum.{spectrumOf}
-use Rattle.walsh.specs.declared.Answer.{Answer}
-use Rattle.walsh.specs.declared.Answer.the-variants.{Done, Refused}
-use Rattle.walsh.proofs.Screens.{inputs-is}
-use Rattle.walsh.proofs.Spectra.{length-spectrum, within-spectrum}
+use Rattle.statements.specs.declared.Pair.{Pair}
+use Rattle.screen.specs.Answers.{andThen, inputsOf}
+use Rattle.transform.specs.Spectrum.{spectrumOf}
+use Rattle.screen.specs.declared.Answer.{Answer}
+use Rattle.screen.specs.declared.Answer.the-variants.{Done, Refused}
+use Rattle.screen.proofs.Screens.{inputs-is}
+use Rattle.transform.proofs.Spectra.{length-spectrum, within-spectrum}
 use Rattle.faults.specs.Faults.{openedRowNumber, openedRow, openedRows, openedRight, keptInputs, openedAnswer, openedSpectrumOf}
 use Rattle.faults.proofs.Arguments.{few-is, opened-binary}
 use Rattle.faults.proofs.Digits.{digit, put-low-half, put-below, put-shows}
 use Rattle.faults.proofs.Faulted.{screened, none-undivided, opened-faulted}
 use Rattle.faults.proofs.Opening.{Bits}
-use Rattle.planner.specs.CircuitCall.{roomAnswer, circuitAnswer, circuitSpectrum}
-use Rattle.agreement.specs.Pairs.{withPair, presentPairs, valueOf, valuesOf}
+use Rattle.circuit.specs.CircuitCall.{roomAnswer, circuitAnswer, circuitSpectrum}
+use Rattle.agreement.specs.Pairs.{withPair, presentPairs, pairValue, stuckValues}
 use Rattle.agreement.specs.Opened.{drivenBy, driven, openedCircuitRow, openedCircuitRows}
-use Rattle.agreement.proofs.Accepted.{fault-right, spectrum-is, answer-is, room-enough, room-answer}
+use Rattle.agreement.proofs.Accepted.{named-fault-right, spectrum-is, answer-is, room-enough, room-answer}
 use Rattle.agreement.proofs.Pairs.{bit-back, with-none, shownBy, shown-by-pairs, pairs-some, pairs-few, values-bits, values-binary}
 use Rattle.agreement.proofs.SameRows.{same-row}
 
@@ -91,23 +93,23 @@ number-shows (v ∷ rest) n x h b =
 
 -- The opened lines, driven by that row.
 
-driven-same : (y i : ℕ) (s : Pair) → digit i y ≡ valueOf s → drivenBy y i s ≡ s
+driven-same : (y i : ℕ) (s : Pair) → digit i y ≡ pairValue s → drivenBy y i s ≡ s
 driven-same y i s e =
     let with-value : Bool → Pair = λ v. record { line = s .line; value = v } in
     ap with-value (ap (λ (k : ℕ). eqb k 1) e ∙ bit-back (s .value))
 
-with-driven : (y i : ℕ) (s : Pair) (now rest : List Pair) → (s .line ≡ 0 → now ≡ rest) → (Shows (suc i) (map valueOf rest) y → now ≡ rest)
-    → Shows i (map valueOf (withPair s rest)) y → withPair (drivenBy y i s) now ≡ withPair s rest
+with-driven : (y i : ℕ) (s : Pair) (now rest : List Pair) → (s .line ≡ 0 → now ≡ rest) → (Shows (suc i) (map pairValue rest) y → now ≡ rest)
+    → Shows i (map pairValue (withPair s rest)) y → withPair (drivenBy y i s) now ≡ withPair s rest
 unfolding withPair
 with-driven y i s now rest none some h = go (eqb (s .line) 0) refl h
   where
-    go : (b : Bool) → eqb (s .line) 0 ≡ b → Shows i (map valueOf (cond b rest (s ∷ rest))) y → cond b now (drivenBy y i s ∷ now) ≡ cond b rest (s ∷ rest)
+    go : (b : Bool) → eqb (s .line) 0 ≡ b → Shows i (map pairValue (cond b rest (s ∷ rest))) y → cond b now (drivenBy y i s ∷ now) ≡ cond b rest (s ∷ rest)
     go true e h = none (eqb-true (s .line) 0 e)
     go false e h = ap₂ (λ (p : Pair) (l : List Pair). p ∷ l) (driven-same y i s (h .0)) (some (h .1))
 
 -- where the bits are the fault's values, the lines show what the fault says
-driven-pairs : (top n y : ℕ) (f : Fault) → FaultRight top f → Shows n (valuesOf f) y → presentPairs (driven n f y) ≡ presentPairs f
-unfolding presentPairs valuesOf driven
+driven-pairs : (top n y : ℕ) (f : Fault) → FaultRight top f → Shows n (stuckValues f) y → presentPairs (driven n f y) ≡ presentPairs f
+unfolding presentPairs stuckValues driven
 driven-pairs top n y f r h =
     let one : n + 1 ≡ suc n = omega arith in
     let two : n + 2 ≡ suc (suc n) = omega arith in
@@ -122,37 +124,37 @@ driven-pairs top n y f r h =
 
 -- A circuit with a fault's lines opened.
 
-length-opened : (n : Netlist) (f : Fault) → length (openedCircuitRows n f) ≡ 2 ^ (n .inputs + length (valuesOf f))
+length-opened : (n : Netlist) (f : Fault) → length (openedCircuitRows n f) ≡ 2 ^ (n .inputs + length (stuckValues f))
 unfolding openedCircuitRows
-length-opened n f = length-tab (2 ^ (n .inputs + length (valuesOf f))) (openedCircuitRow n f)
+length-opened n f = length-tab (2 ^ (n .inputs + length (stuckValues f))) (openedCircuitRow n f)
 
 module _ (top : ℕ) (n : Netlist) (f : Fault) (right : FaultRight top f) where
-  opened-row : (x : ℕ) → x < 2 ^ n .inputs → openedCircuitRow n f (openedRowNumber (n .inputs) (valuesOf f) x) ≡ rowValue n f x
+  opened-row : (x : ℕ) → x < 2 ^ n .inputs → openedCircuitRow n f (openedRowNumber (n .inputs) (stuckValues f) x) ≡ rowValue n f x
   unfolding openedCircuitRow
   opened-row x h =
-      ap (rowValue n (driven (n .inputs) f y)) (number-low (valuesOf f) (n .inputs) (n .inputs) x (omega arith) ∙ mod-eq-of-lt h)
+      ap (rowValue n (driven (n .inputs) f y)) (number-low (stuckValues f) (n .inputs) (n .inputs) x (omega arith) ∙ mod-eq-of-lt h)
       ∙ same-row n (driven (n .inputs) f y) f (λ line v g. same line v (omega arith)) x x (λ i g. same (i + 1) (applied x i) (omega arith))
     where
       y : ℕ
-      y = openedRowNumber (n .inputs) (valuesOf f) x
+      y = openedRowNumber (n .inputs) (stuckValues f) x
 
       same : (line : ℕ) (v : Bool) → 1 ≤ line → shown (driven (n .inputs) f y) line v ≡ shown f line v
       same line v g =
           shown-by-pairs (driven (n .inputs) f y) line v g
-          ∙ ap (λ (l : List Pair). shownBy l line v) (driven-pairs top (n .inputs) y f right (number-shows (valuesOf f) (n .inputs) x h (values-bits f)))
+          ∙ ap (λ (l : List Pair). shownBy l line v) (driven-pairs top (n .inputs) y f right (number-shows (stuckValues f) (n .inputs) x h (values-bits f)))
           ∙ sym (shown-by-pairs f line v g)
 
-  pub opened-rows : openedRows (n .inputs) (valuesOf f) (openedCircuitRows n f) ≡ rowsOf n f
+  pub opened-rows : openedRows (n .inputs) (stuckValues f) (openedCircuitRows n f) ≡ rowsOf n f
   unfolding openedRows openedRow openedCircuitRows rowsOf
   opened-rows =
-      tab-ext (2 ^ n .inputs) (openedRow (n .inputs) (valuesOf f) (openedCircuitRows n f)) (rowValue n f)
-      (λ x h. getD-tab (2 ^ (n .inputs + length (valuesOf f))) (openedCircuitRow n f) (pos 0) (openedRowNumber (n .inputs) (valuesOf f) x)
-      (number-below (valuesOf f) (n .inputs) (n .inputs + length (valuesOf f)) x refl h (values-bits f)) ∙ opened-row x h)
+      tab-ext (2 ^ n .inputs) (openedRow (n .inputs) (stuckValues f) (openedCircuitRows n f)) (rowValue n f)
+      (λ x h. getD-tab (2 ^ (n .inputs + length (stuckValues f))) (openedCircuitRow n f) (pos 0) (openedRowNumber (n .inputs) (stuckValues f) x)
+      (number-below (stuckValues f) (n .inputs) (n .inputs + length (stuckValues f)) x refl h (values-bits f)) ∙ opened-row x h)
 
 opened-bounded : (n : Netlist) (f : Fault) → WellFormed n → Within 60 (openedCircuitRows n f)
 unfolding openedCircuitRows openedCircuitRow
 opened-bounded n f w x l =
-    let size = 2 ^ (n .inputs + length (valuesOf f)) in
+    let size = 2 ^ (n .inputs + length (stuckValues f)) in
     let inside : x < size = omega (arith, length-opened n f) in
     subst (λ (z : ℤ). natAbs z ≤ 60) (sym (getD-tab size (openedCircuitRow n f) (pos 0) x inside))
     (le-trans (row-within 15 n (driven (n .inputs) f x) (x % 2 ^ n .inputs) (λ k h. w .outputs-right k h .weight-high)) (mul-le-mul (w .outputs-high) (le-refl 15)))
@@ -164,14 +166,14 @@ then-done Done = refl
 then-done (Refused number place) = refl
 
 module _ (top : ℕ) (n : Netlist) (f : Fault) (right : FaultRight top f) (well : WellFormed n) where
-  opened-inputs : inputsOf (length (openedCircuitRows n f)) ≡ n .inputs + length (valuesOf f)
+  opened-inputs : inputsOf (length (openedCircuitRows n f)) ≡ n .inputs + length (stuckValues f)
   opened-inputs =
       let some = well .inputs-low in
       let most = well .inputs-high in
       let few = pairs-few f in
-      ap inputsOf (length-opened n f) ∙ inputs-is (n .inputs + length (valuesOf f)) (omega arith) (omega arith)
+      ap inputsOf (length-opened n f) ∙ inputs-is (n .inputs + length (stuckValues f)) (omega arith) (omega arith)
 
-  kept : keptInputs (openedCircuitRows n f) (valuesOf f) ≡ n .inputs
+  kept : keptInputs (openedCircuitRows n f) (stuckValues f) ≡ n .inputs
   kept = let e = opened-inputs in omega arith
 
   opened-within : Within 2048000 (spectrumOf (openedCircuitRows n f))
@@ -179,37 +181,37 @@ module _ (top : ℕ) (n : Netlist) (f : Fault) (right : FaultRight top f) (well 
       let rows = openedCircuitRows n f in
       let most = well .inputs-high in
       let few = pairs-few f in
-      let size : 2 ^ (n .inputs + length (valuesOf f)) ≤ 2 ^ 11 = pow-mono {j = 11} (omega arith) in
+      let size : 2 ^ (n .inputs + length (stuckValues f)) ≤ 2 ^ 11 = pow-mono {j = 11} (omega arith) in
       let short : length rows ≤ 2048 = omega (arith, length-opened n f) in
       within-more (spectrumOf rows) (le-trans (mul-le-mul short (le-refl 60)) (lit≤ tt)) (within-spectrum 60 rows (opened-bounded n f well))
 
-  suits : openedRight (inputsOf (length (openedCircuitRows n f))) (valuesOf f) ≡ true
+  suits : openedRight (inputsOf (length (openedCircuitRows n f))) (stuckValues f) ≡ true
   suits =
       let few = pairs-few f in
       let some = pairs-some f (right .first-low) in
       let low = well .inputs-low in
       let inputs = opened-inputs in
-      opened-binary (inputsOf (length (openedCircuitRows n f))) (valuesOf f) (few-is (length (valuesOf f)) some few) (omega arith) ∙ values-binary f
+      opened-binary (inputsOf (length (openedCircuitRows n f))) (stuckValues f) (few-is (length (stuckValues f)) some few) (omega arith) ∙ values-binary f
 
-  opened-screened : (room : ℕ) → screened (spectrumOf (openedCircuitRows n f)) (valuesOf f) room ≡ roomAnswer (n .inputs) room
+  opened-screened : (room : ℕ) → screened (spectrumOf (openedCircuitRows n f)) (stuckValues f) room ≡ roomAnswer (n .inputs) room
   opened-screened =
       let c = spectrumOf (openedCircuitRows n f) in
       let same : inputsOf (length c) ≡ inputsOf (length (openedCircuitRows n f)) = ap inputsOf (length-spectrum (openedCircuitRows n f)) in
       let inputs = opened-inputs in
       let low = well .inputs-low in
-      let left : keptInputs c (valuesOf f) ≡ n .inputs = omega arith in
-      room-answer 2048000 (n .inputs) (openedRight (inputsOf (length c)) (valuesOf f)) c (2 ^ keptInputs c (valuesOf f)) (omega arith)
-      (ap (λ (k : ℕ). openedRight k (valuesOf f)) same ∙ suits) opened-within (ap (λ (k : ℕ). 2 ^ k) left)
+      let left : keptInputs c (stuckValues f) ≡ n .inputs = omega arith in
+      room-answer 2048000 (n .inputs) (openedRight (inputsOf (length c)) (stuckValues f)) c (2 ^ keptInputs c (stuckValues f)) (omega arith)
+      (ap (λ (k : ℕ). openedRight k (stuckValues f)) same ∙ suits) opened-within (ap (λ (k : ℕ). 2 ^ k) left)
 
-  pub opened-answer : (room : ℕ) → openedAnswer (spectrumOf (openedCircuitRows n f)) (valuesOf f) room ≡ roomAnswer (n .inputs) room
+  pub opened-answer : (room : ℕ) → openedAnswer (spectrumOf (openedCircuitRows n f)) (stuckValues f) room ≡ roomAnswer (n .inputs) room
   unfolding openedAnswer
-  opened-answer room = ap₂ andThen (opened-screened room) (none-undivided (openedCircuitRows n f) (valuesOf f) suits) ∙ then-done (roomAnswer (n .inputs) room)
+  opened-answer room = ap₂ andThen (opened-screened room) (none-undivided (openedCircuitRows n f) (stuckValues f) suits) ∙ then-done (roomAnswer (n .inputs) room)
 
-  pub opened-spectrum : openedSpectrumOf (spectrumOf (openedCircuitRows n f)) (valuesOf f) ≡ spectrumOf (rowsOf n f)
-  opened-spectrum =
+  pub opened-circuit-spectrum : openedSpectrumOf (spectrumOf (openedCircuitRows n f)) (stuckValues f) ≡ spectrumOf (rowsOf n f)
+  opened-circuit-spectrum =
       let room = 2 ^ n .inputs in
-      opened-faulted (openedCircuitRows n f) (valuesOf f) room (opened-answer room ∙ room-enough (n .inputs) room (omega arith))
-      ∙ ap (λ (k : ℕ). spectrumOf (openedRows k (valuesOf f) (openedCircuitRows n f))) kept
+      opened-faulted (openedCircuitRows n f) (stuckValues f) room (opened-answer room ∙ room-enough (n .inputs) room (omega arith))
+      ∙ ap (λ (k : ℕ). spectrumOf (openedRows k (stuckValues f) (openedCircuitRows n f))) kept
       ∙ ap spectrumOf (opened-rows top n f right)
 
 -- Fault k of an accepted text.
@@ -219,13 +221,13 @@ module _ (text : List ℕ) (n : Netlist) (parsed : parseOf text ≡ accepted n) 
   well = well-formed text n parsed
 
   right : FaultRight (topOf n) (faultAt n k)
-  right = fault-right n k well low high
+  right = named-fault-right n k well low high
 
-  pub opened-lines-answer : (room : ℕ) → openedAnswer (spectrumOf (openedCircuitRows n (faultAt n k))) (valuesOf (faultAt n k)) room ≡ circuitAnswer text k room
+  pub opened-lines-answer : (room : ℕ) → openedAnswer (spectrumOf (openedCircuitRows n (faultAt n k))) (stuckValues (faultAt n k)) room ≡ circuitAnswer text k room
   opened-lines-answer room = opened-answer (topOf n) n (faultAt n k) right well room ∙ sym (answer-is text n parsed k room high)
 
-  pub opened-lines-done : (room : ℕ) → 2 ^ n .inputs ≤ room → openedAnswer (spectrumOf (openedCircuitRows n (faultAt n k))) (valuesOf (faultAt n k)) room ≡ Done
+  pub opened-lines-done : (room : ℕ) → 2 ^ n .inputs ≤ room → openedAnswer (spectrumOf (openedCircuitRows n (faultAt n k))) (stuckValues (faultAt n k)) room ≡ Done
   opened-lines-done room enough = opened-answer (topOf n) n (faultAt n k) right well room ∙ room-enough (n .inputs) room enough
 
-  pub opened-lines-agree : openedSpectrumOf (spectrumOf (openedCircuitRows n (faultAt n k))) (valuesOf (faultAt n k)) ≡ circuitSpectrum text k
-  opened-lines-agree = opened-spectrum (topOf n) n (faultAt n k) right well ∙ sym (spectrum-is text n parsed k)
+  pub opened-lines-agree : openedSpectrumOf (spectrumOf (openedCircuitRows n (faultAt n k))) (stuckValues (faultAt n k)) ≡ circuitSpectrum text k
+  opened-lines-agree = opened-circuit-spectrum (topOf n) n (faultAt n k) right well ∙ sym (spectrum-is text n parsed k)

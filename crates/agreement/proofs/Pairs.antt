@@ -14,15 +14,15 @@ use native.Mathlib.Omega.{arith}
 use lib.Dec.{eqb}
 use lib.ListN.{length, length-map}
 use borrow.Author.Tests.{eq-eqb, ne-eqb, eqb-true}
-use Rattle.netlist.specs.WellFormed.{Above, FaultRight}
-use Rattle.netlist.proofs.Acceptance.{free-line}
-use Rattle.simulation.specs.Rows.{stuckOr, shown}
-use Rattle.faults.specs.Faults.{rising, binary, stuckRight}
+use Rattle.sections.specs.FaultLines.{Above, FaultRight}
+use Rattle.sections.proofs.FaultsRight.{free-line}
+use Rattle.gates.specs.Gates.{stuckOr, shown}
+use Rattle.faults.specs.Faults.{risingInputs, binary, stuckRight}
 use Rattle.faults.proofs.Arguments.{rising-cons, few-is, stuck-binary, binary-bits}
 use Rattle.faults.proofs.Opening.{Bits}
 use Rattle.statements.specs.declared.Fault.{Fault}
-use Rattle.statements.specs.declared.Stuck.{Stuck as Pair}
-use Rattle.agreement.specs.Pairs.{withPair, presentPairs, lineOf, bitFor, valueOf, linesOf, valuesOf}
+use Rattle.statements.specs.declared.Pair.{Pair}
+use Rattle.agreement.specs.Pairs.{withPair, presentPairs, pairLine, bitFor, pairValue, stuckLines, stuckValues}
 
 -- One pair.
 
@@ -72,57 +72,57 @@ with-length s rest = go (eqb (s .line) 0)
     go true = omega arith
     go false = omega arith
 
-pub pairs-few : (f : Fault) → length (valuesOf f) ≤ 3
-unfolding valuesOf presentPairs
+pub pairs-few : (f : Fault) → length (stuckValues f) ≤ 3
+unfolding stuckValues presentPairs
 pairs-few f =
     let third = with-length (f .third) [] in
     let second = with-length (f .second) (withPair (f .third) []) in
     let first = with-length (f .first) (withPair (f .second) (withPair (f .third) [])) in
-    omega (arith, length-map (presentPairs f) valueOf)
+    omega (arith, length-map (presentPairs f) pairValue)
 
-pub pairs-some : (f : Fault) → 1 ≤ f .first .line → 1 ≤ length (valuesOf f)
-unfolding valuesOf presentPairs
+pub pairs-some : (f : Fault) → 1 ≤ f .first .line → 1 ≤ length (stuckValues f)
+unfolding stuckValues presentPairs
 pairs-some f h =
     let more = withPair (f .second) (withPair (f .third) []) in
-    omega (arith, length-map (presentPairs f) valueOf, ap length (with-some (f .first) more h))
+    omega (arith, length-map (presentPairs f) pairValue, ap length (with-some (f .first) more h))
 
-pub values-even : (f : Fault) → length (valuesOf f) ≡ length (linesOf f)
-unfolding valuesOf linesOf
-values-even f = length-map (presentPairs f) valueOf ∙ sym (length-map (presentPairs f) lineOf)
+pub values-even : (f : Fault) → length (stuckValues f) ≡ length (stuckLines f)
+unfolding stuckValues stuckLines
+values-even f = length-map (presentPairs f) pairValue ∙ sym (length-map (presentPairs f) pairLine)
 
 -- Their values.
 
-bits-binary : (pairs : List Pair) → binary (map valueOf pairs) ≡ true
+bits-binary : (pairs : List Pair) → binary (map pairValue pairs) ≡ true
 unfolding binary
 bits-binary [] = refl
 bits-binary (s ∷ rest) = go (s .value) (bits-binary rest)
   where
-    go : (v : Bool) → binary (map valueOf rest) ≡ true → binary (bitFor v ∷ map valueOf rest) ≡ true
+    go : (v : Bool) → binary (map pairValue rest) ≡ true → binary (bitFor v ∷ map pairValue rest) ≡ true
     go true ih = ih
     go false ih = ih
 
-pub values-binary : (f : Fault) → binary (valuesOf f) ≡ true
-unfolding valuesOf
+pub values-binary : (f : Fault) → binary (stuckValues f) ≡ true
+unfolding stuckValues
 values-binary f = bits-binary (presentPairs f)
 
-pub values-bits : (f : Fault) → Bits (valuesOf f)
-values-bits f = binary-bits (valuesOf f) (values-binary f)
+pub values-bits : (f : Fault) → Bits (stuckValues f)
+values-bits f = binary-bits (stuckValues f) (values-binary f)
 
 -- Their lines.
 
-with-rises : (last top : ℕ) (s : Pair) (rest : List Pair) → Above last top s → (s .line ≡ 0 → rest ≡ []) → rising (s .line) top (map lineOf rest) ≡ true
-    → rising last top (map lineOf (withPair s rest)) ≡ true
-unfolding rising
+with-rises : (last top : ℕ) (s : Pair) (rest : List Pair) → Above last top s → (s .line ≡ 0 → rest ≡ []) → risingInputs (s .line) top (map pairLine rest) ≡ true
+    → risingInputs last top (map pairLine (withPair s rest)) ≡ true
+unfolding risingInputs
 with-rises last top s rest (inl none) stop e =
     let z = free-line none in
-    ap (λ (l : List Pair). rising last top (map lineOf l)) (with-none s rest z ∙ stop z)
+    ap (λ (l : List Pair). risingInputs last top (map pairLine l)) (with-none s rest z ∙ stop z)
 with-rises last top s rest (inr some) stop e =
     let low = some .0 in
-    ap (λ (l : List Pair). rising last top (map lineOf l)) (with-some s rest (omega arith))
-    ∙ rising-cons last top (s .line) (map lineOf rest) low (some .1) e
+    ap (λ (l : List Pair). risingInputs last top (map pairLine l)) (with-some s rest (omega arith))
+    ∙ rising-cons last top (s .line) (map pairLine rest) low (some .1) e
 
-pub lines-rise : (top : ℕ) (f : Fault) → FaultRight top f → rising 0 top (linesOf f) ≡ true
-unfolding linesOf presentPairs rising
+pub lines-rise : (top : ℕ) (f : Fault) → FaultRight top f → risingInputs 0 top (stuckLines f) ≡ true
+unfolding stuckLines presentPairs risingInputs
 lines-rise top f r =
     let third = with-rises (f .second .line) top (f .third) [] (r .third) (λ e. refl) refl in
     let second =
@@ -130,9 +130,9 @@ lines-rise top f r =
     let low = r .first-low in
     with-rises 0 top (f .first) (withPair (f .second) (withPair (f .third) [])) (inr (low, r .first-high)) (λ e. absurd (omega arith)) second
 
-pub pairs-right : (top : ℕ) (f : Fault) → FaultRight top f → stuckRight top (linesOf f) (valuesOf f) ≡ true
+pub pairs-right : (top : ℕ) (f : Fault) → FaultRight top f → stuckRight top (stuckLines f) (stuckValues f) ≡ true
 pairs-right top f r =
     let even = values-even f in
     let some = pairs-some f (r .first-low) in
     let few = pairs-few f in
-    stuck-binary top (linesOf f) (valuesOf f) (few-is (length (linesOf f)) (omega arith) (omega arith)) even ∙ rw (values-binary f) (lines-rise top f r)
+    stuck-binary top (stuckLines f) (stuckValues f) (few-is (length (stuckLines f)) (omega arith) (omega arith)) even ∙ rw (values-binary f) (lines-rise top f r)

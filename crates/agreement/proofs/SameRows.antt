@@ -9,7 +9,8 @@ use lib.ListN.{length}
 use Rattle.integer.specs.Sum.{sumTo}
 use Rattle.integer.proofs.Tabs.{tab-ext}
 use Rattle.netlist.specs.Circuits.{Netlist}
-use Rattle.simulation.specs.Rows.{shown, inputShown, inputValues, gateNext, gatesNext, lineValues, outputTerm, rowValue}
+use Rattle.gates.specs.Gates.{shown}
+use Rattle.simulation.specs.Rows.{inputShown, inputValues, gateNext, gatesNext, lineValues, outputTerm, rowValue}
 use Rattle.simulation.proofs.Equations.{gateIn}
 use Rattle.simulation.proofs.LineValues.{length-inputs, length-next}
 use Rattle.statements.specs.declared.Fault.{Fault}

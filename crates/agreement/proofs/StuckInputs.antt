@@ -18,34 +18,36 @@ use Rattle.integer.proofs.Bounds.{within-more}
 use Rattle.integer.proofs.Tabs.{tab-ext, getD-tab}
 use Rattle.netlist.specs.Circuits.{Netlist, faultAt}
 use Rattle.netlist.specs.Parsing.{accepted, parseOf}
-use Rattle.netlist.specs.WellFormed.{Above, FaultRight, WellFormed, topOf}
+use Rattle.sections.specs.FaultLines.{Above, FaultRight}
+use Rattle.netlist.specs.WellFormed.{WellFormed, topOf}
 use Rattle.netlist.proofs.Acceptance.{well-formed}
-use Rattle.simulation.specs.Rows.{stuckOr, shown, applied, inputShown, rowValue, rowsOf}
+use Rattle.gates.specs.Gates.{stuckOr, shown, applied}
+use Rattle.simulation.specs.Rows.{inputShown, rowValue, rowsOf}
 use Rattle.simulation.proofs.RowBounds.{length-rows}
 use Rattle.simulation.proofs.Showing.{others-keep, sound-keeps}
 use Rattle.statements.specs.Items.{sound}
 use Rattle.statements.specs.declared.Fault.{Fault}
-use Rattle.statements.specs.declared.Stuck.{Stuck as Pair}
-use Rattle.walsh.specs.Answers.{inputsOf}
-use Rattle.walsh.specs.Spectrum.{spectrumOf}
-use Rattle.walsh.specs.declared.Answer.the-variants.{Done}
-use Rattle.walsh.proofs.Screens.{inputs-is}
-use Rattle.walsh.proofs.Spectra.{length-spectrum}
+use Rattle.statements.specs.declared.Pair.{Pair}
+use Rattle.screen.specs.Answers.{inputsOf}
+use Rattle.transform.specs.Spectrum.{spectrumOf}
+use Rattle.screen.specs.declared.Answer.the-variants.{Done}
+use Rattle.screen.proofs.Screens.{inputs-is}
+use Rattle.transform.proofs.Spectra.{length-spectrum}
 use Rattle.faults.specs.Faults.{Stuck, stuckOf, replaced, replacedAll, stuckRow, stuckRows, stuckRight, stuckAnswer, stuckSpectrumOf}
 use Rattle.faults.proofs.Arguments.{rising-rises, binary-values}
 use Rattle.faults.proofs.Faulted.{stuck-faulted, replaced-shows, replaced-keeps}
 use Rattle.faults.proofs.Sticking.{Rises, Values, replaced-below}
-use Rattle.planner.specs.CircuitCall.{roomAnswer, circuitAnswer, circuitSpectrum}
-use Rattle.planner.proofs.CircuitLaws.{spectrum-bounded}
-use Rattle.agreement.specs.Pairs.{presentPairs, lineOf, bitFor, valueOf, linesOf, valuesOf, pairsOf, OfInputs}
-use Rattle.agreement.proofs.Accepted.{fault-right, spectrum-is, answer-is, room-enough, room-answer}
+use Rattle.circuit.specs.CircuitCall.{roomAnswer, circuitAnswer, circuitSpectrum}
+use Rattle.circuit.proofs.CircuitLaws.{spectrum-bounded}
+use Rattle.agreement.specs.Pairs.{presentPairs, pairLine, bitFor, pairValue, stuckLines, stuckValues, pairsOf, OfInputs}
+use Rattle.agreement.proofs.Accepted.{named-fault-right, spectrum-is, answer-is, room-enough, room-answer}
 use Rattle.agreement.proofs.Pairs.{bit-back, bit-small, shownBy, shown-by-pairs, lines-rise, values-binary, pairs-right}
 use Rattle.agreement.proofs.SameRows.{same-row}
 
 -- Rows with inputs replaced.
 
 abbrev numbered : List Pair → List Stuck
-numbered pairs = stuckOf (map lineOf pairs) (map valueOf pairs)
+numbered pairs = stuckOf (map pairLine pairs) (map pairValue pairs)
 
 -- lines that rise from above `last` leave the lines up to `last` alone
 below-keep : (pairs : List Pair) (last top line : ℕ) (v : Bool) → Rises last top (numbered pairs) → line ≤ last → shownBy pairs line v ≡ v
@@ -111,14 +113,14 @@ input-fault n f r o =
 module _ (n : Netlist) (f : Fault) (right : FaultRight (topOf n) f) (inputs-only : OfInputs n f) where
   rises : Rises 0 (n .inputs) (pairsOf f)
   unfolding pairsOf
-  rises = rising-rises 0 (n .inputs) (linesOf f) (valuesOf f) (lines-rise (n .inputs) f (input-fault n f right inputs-only))
+  rises = rising-rises 0 (n .inputs) (stuckLines f) (stuckValues f) (lines-rise (n .inputs) f (input-fault n f right inputs-only))
 
   row-stays : (x : ℕ) → x < 2 ^ n .inputs → replacedAll (pairsOf f) x < 2 ^ n .inputs
   unfolding pairsOf
-  row-stays x h = all-below (pairsOf f) 0 (n .inputs) x rises (binary-values (linesOf f) (valuesOf f) (values-binary f)) h
+  row-stays x h = all-below (pairsOf f) 0 (n .inputs) x rises (binary-values (stuckLines f) (stuckValues f) (values-binary f)) h
 
   input-row : (x : ℕ) → rowValue n f x ≡ rowValue n sound (replacedAll (pairsOf f) x)
-  unfolding pairsOf linesOf valuesOf
+  unfolding pairsOf stuckLines stuckValues
   input-row x = same-row n f sound gates x (replacedAll (pairsOf f) x) inputs
     where
       gates : (line : ℕ) (v : Bool) → n .inputs < line → shown f line v ≡ shown sound line v
@@ -148,9 +150,9 @@ module _ (text : List ℕ) (n : Netlist) (parsed : parseOf text ≡ accepted n) 
   well = well-formed text n parsed
 
   right : FaultRight (topOf n) (faultAt n k)
-  right = fault-right n k well low high
+  right = named-fault-right n k well low high
 
-  sound-answer : (room : ℕ) → stuckAnswer (spectrumOf (rowsOf n sound)) (linesOf (faultAt n k)) (valuesOf (faultAt n k)) room ≡ roomAnswer (n .inputs) room
+  sound-answer : (room : ℕ) → stuckAnswer (spectrumOf (rowsOf n sound)) (stuckLines (faultAt n k)) (stuckValues (faultAt n k)) room ≡ roomAnswer (n .inputs) room
   unfolding stuckAnswer
   sound-answer =
       let f = faultAt n k in
@@ -159,22 +161,22 @@ module _ (text : List ℕ) (n : Netlist) (parsed : parseOf text ≡ accepted n) 
       let some = well .inputs-low in
       let most = well .inputs-high in
       let inputs : inputsOf (length c) ≡ n .inputs = ap inputsOf size ∙ inputs-is (n .inputs) (omega arith) (omega arith) in
-      room-answer 2048000 (n .inputs) (stuckRight (inputsOf (length c)) (linesOf f) (valuesOf f)) c (length c) (omega arith)
-      (ap (λ (m : ℕ). stuckRight m (linesOf f) (valuesOf f)) inputs ∙ pairs-right (n .inputs) f (input-fault n f right inputs-only))
+      room-answer 2048000 (n .inputs) (stuckRight (inputsOf (length c)) (stuckLines f) (stuckValues f)) c (length c) (omega arith)
+      (ap (λ (m : ℕ). stuckRight m (stuckLines f) (stuckValues f)) inputs ∙ pairs-right (n .inputs) f (input-fault n f right inputs-only))
       (within-more {B = 15360} {C = 2048000} c (lit≤ tt) (spectrum-bounded n sound well)) size
 
-  pub stuck-inputs-answer : (room : ℕ) → stuckAnswer (circuitSpectrum text 0) (linesOf (faultAt n k)) (valuesOf (faultAt n k)) room ≡ circuitAnswer text k room
+  pub stuck-inputs-answer : (room : ℕ) → stuckAnswer (circuitSpectrum text 0) (stuckLines (faultAt n k)) (stuckValues (faultAt n k)) room ≡ circuitAnswer text k room
   stuck-inputs-answer room = rw (spectrum-is text n parsed 0) (sound-answer room) ∙ sym (answer-is text n parsed k room high)
 
-  pub stuck-inputs-done : (room : ℕ) → 2 ^ n .inputs ≤ room → stuckAnswer (circuitSpectrum text 0) (linesOf (faultAt n k)) (valuesOf (faultAt n k)) room ≡ Done
+  pub stuck-inputs-done : (room : ℕ) → 2 ^ n .inputs ≤ room → stuckAnswer (circuitSpectrum text 0) (stuckLines (faultAt n k)) (stuckValues (faultAt n k)) room ≡ Done
   stuck-inputs-done room enough = rw (spectrum-is text n parsed 0) (sound-answer room) ∙ room-enough (n .inputs) room enough
 
-  pub stuck-inputs-agree : stuckSpectrumOf (stuckOf (linesOf (faultAt n k)) (valuesOf (faultAt n k))) (circuitSpectrum text 0) ≡ circuitSpectrum text k
+  pub stuck-inputs-agree : stuckSpectrumOf (stuckOf (stuckLines (faultAt n k)) (stuckValues (faultAt n k))) (circuitSpectrum text 0) ≡ circuitSpectrum text k
   unfolding pairsOf
   stuck-inputs-agree =
       let f = faultAt n k in
       let room = 2 ^ n .inputs in
       ap (stuckSpectrumOf (pairsOf f)) (spectrum-is text n parsed 0)
-      ∙ stuck-faulted (rowsOf n sound) (linesOf f) (valuesOf f) room (sound-answer room ∙ room-enough (n .inputs) room (omega arith))
+      ∙ stuck-faulted (rowsOf n sound) (stuckLines f) (stuckValues f) room (sound-answer room ∙ room-enough (n .inputs) room (omega arith))
       ∙ ap spectrumOf (sym (input-rows n f right inputs-only))
       ∙ sym (spectrum-is text n parsed k)

@@ -6,10 +6,11 @@ use lib.IntN.{ℤ}
 use lib.ListN.{length}
 use Rattle.integer.specs.Tab.{tab}
 use Rattle.netlist.specs.Circuits.{Netlist}
-use Rattle.simulation.specs.Rows.{applied, rowValue}
+use Rattle.gates.specs.Gates.{applied}
+use Rattle.simulation.specs.Rows.{rowValue}
 use Rattle.statements.specs.declared.Fault.{Fault}
-use Rattle.statements.specs.declared.Stuck.{Stuck as Pair}
-use Rattle.agreement.specs.Pairs.{valuesOf}
+use Rattle.statements.specs.declared.Pair.{Pair}
+use Rattle.agreement.specs.Pairs.{stuckValues}
 
 -- the pair's line, driven by bit i of row x
 abbrev pub drivenBy : ℕ → ℕ → Pair → Pair
@@ -25,4 +26,4 @@ openedCircuitRow n f x = rowValue n (driven (n .inputs) f x) (x % 2 ^ n .inputs)
 
 -- the rows of N inputs and as many opened lines as the fault names
 unfoldable pub openedCircuitRows : Netlist → Fault → List ℤ
-openedCircuitRows n f = tab (2 ^ (n .inputs + length (valuesOf f))) (openedCircuitRow n f)
+openedCircuitRows n f = tab (2 ^ (n .inputs + length (stuckValues f))) (openedCircuitRow n f)

@@ -7,7 +7,7 @@ use lib.Dec.{eqb}
 use Rattle.faults.specs.Faults.{Stuck, stuckOf}
 use Rattle.netlist.specs.Circuits.{Netlist}
 use Rattle.statements.specs.declared.Fault.{Fault}
-use Rattle.statements.specs.declared.Stuck.{Stuck as Pair}
+use Rattle.statements.specs.declared.Pair.{Pair}
 
 -- a pair that names no line is not there: lines count from 1
 unfoldable pub withPair : Pair → List Pair → List Pair
@@ -17,26 +17,26 @@ withPair s rest = cond (eqb (s .line) 0) rest (s ∷ rest)
 unfoldable pub presentPairs : Fault → List Pair
 presentPairs f = withPair (f .first) (withPair (f .second) (withPair (f .third) []))
 
-abbrev pub lineOf : Pair → ℕ
-lineOf s = s .line
+abbrev pub pairLine : Pair → ℕ
+pairLine s = s .line
 
 -- VALUE as a number
 abbrev pub bitFor : Bool → ℕ
 bitFor true = 1
 bitFor false = 0
 
-abbrev pub valueOf : Pair → ℕ
-valueOf s = bitFor (s .value)
+abbrev pub pairValue : Pair → ℕ
+pairValue s = bitFor (s .value)
 
-unfoldable pub linesOf : Fault → List ℕ
-linesOf f = map lineOf (presentPairs f)
+unfoldable pub stuckLines : Fault → List ℕ
+stuckLines f = map pairLine (presentPairs f)
 
-unfoldable pub valuesOf : Fault → List ℕ
-valuesOf f = map valueOf (presentPairs f)
+unfoldable pub stuckValues : Fault → List ℕ
+stuckValues f = map pairValue (presentPairs f)
 
 -- the lines with their values
 unfoldable pub pairsOf : Fault → List Stuck
-pairsOf f = stuckOf (linesOf f) (valuesOf f)
+pairsOf f = stuckOf (stuckLines f) (stuckValues f)
 
 -- the fault names inputs only; a pair that is not there has line 0
 pub record OfInputs (n : Netlist) (f : Fault) : Type 0 where

@@ -3,10 +3,10 @@
 use mathlib.Core.Path.{_≡_, ap, _∙_, subst}
 use mathlib.Core.List.{List}
 use lib.IntN.{ℤ}
-use Rattle.walsh.specs.Answers.{leaves}
-use Rattle.walsh.specs.declared.Answer.{Answer}
+use Rattle.screen.specs.Answers.{leaves}
+use Rattle.screen.specs.declared.Answer.{Answer}
 use Rattle.capi.specs.Replies.{Gives}
 use Rattle.capi.specs.declared.Reply.{Reply}
 
-pub passed : (r : Reply) (a b : Answer) (new out left : List ℤ) → Gives r a → a ≡ b → left ≡ leaves a new out → Gives r b × (left ≡ leaves b new out)
-passed r a b new out left g e l = (subst (Gives r) e g, l ∙ ap (λ (x : Answer). leaves x new out) e)
+pub passed-on : (r : Reply) (a b : Answer) (new out left : List ℤ) → Gives r a → a ≡ b → left ≡ leaves a new out → Gives r b × (left ≡ leaves b new out)
+passed-on r a b new out left g e l = (subst (Gives r) e g, l ∙ ap (λ (x : Answer). leaves x new out) e)

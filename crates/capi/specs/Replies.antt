@@ -3,12 +3,13 @@ use mathlib.Core.Path.{_≡_}
 use Prim.Native.Nat.{ℕ}
 use Rattle.fixture.specs.declared.Compared.{Compared}
 use Rattle.planner.specs.declared.Planned.{Planned}
-use Rattle.reading.specs.Readings.{numberOf as readingNumber, placeOf as readingPlace, readingOf, fixedOf}
+use Rattle.reading.specs.Readings.{readingNumber, readingPlace, readingOf, fixedOf}
 use Rattle.reading.specs.declared.Reading.{Reading}
 use Rattle.reading.specs.declared.Reading.the-variants.{Syndrome, Weighted, Constrained, Refused}
 use Rattle.report.specs.declared.Reported.{Reported}
-use Rattle.walsh.specs.Answers.{numberOf, placeOf, foundNumber, foundPlace, foundValue}
-use Rattle.walsh.specs.declared.Answer.{Answer}
+use Rattle.screen.specs.Answers.{answerNumber, answerPlace}
+use Rattle.walsh.specs.Coefficients.{foundNumber, foundPlace, foundValue}
+use Rattle.screen.specs.declared.Answer.{Answer}
 use Rattle.walsh.specs.declared.Found.{Found}
 use Rattle.capi.specs.declared.Comparison.{Comparison}
 use Rattle.capi.specs.declared.Measured.{Measured}
@@ -18,8 +19,8 @@ use Rattle.capi.specs.declared.Sum.{Sum}
 use Rattle.capi.specs.declared.Written.{Written}
 
 pub record Gives (r : Reply) (a : Answer) : Type 0 where
-  pub number : r .number ≡ numberOf a
-  pub place : r .place ≡ placeOf a
+  pub number : r .number ≡ answerNumber a
+  pub place : r .place ≡ answerPlace a
 
 pub record GivesFound (r : Sum) (f : Found) : Type 0 where
   pub number : r .number ≡ foundNumber f
@@ -37,15 +38,15 @@ pub record GivesReport (r : Written) (a : Reported) : Type 0 where
   pub bytes : r .bytes ≡ a .bytes
 
 -- the case of a reading, 0 for a refusal
-abbrev pub kindOf : Reading → ℕ
-kindOf (Syndrome x) = 1
-kindOf (Weighted x) = 2
-kindOf (Constrained x fixed) = 3
-kindOf (Refused number place) = 0
+abbrev pub readingKind : Reading → ℕ
+readingKind (Syndrome x) = 1
+readingKind (Weighted x) = 2
+readingKind (Constrained x fixed) = 3
+readingKind (Refused number place) = 0
 
 pub record GivesReading (r : Measured) (a : Reading) : Type 0 where
   pub number : r .number ≡ readingNumber a
-  pub kind : r .kind ≡ kindOf a
+  pub kind : r .kind ≡ readingKind a
   pub fixed : r .fixed ≡ fixedOf a
   pub place : r .place ≡ readingPlace a
   pub value : r .value ≡ readingOf a

@@ -1,19 +1,20 @@
 // The calls for C and Rust: numbers and slices in (a slice as a pointer and a length), a `#[repr(C)]` struct out. An exported function cannot
 // return an enum, so the structs give document 01's number and place of each answer, by the definitions that the calls' own promises cite.
 use reading::Reading;
-use walsh::Answer;
+use screen::Answer;
 use walsh::Found;
 ghost use mathlib.Core.Path.{_≡_};
 ghost use lib.ListN.{length};
 ghost use Rattle.faults.specs.Faults.{stuckOf, stuckAnswer, stuckSpectrumOf, openedAnswer, openedSpectrumOf};
 ghost use Rattle.fixture.specs.ReadingCall.{readingAnswer, pairAnswer};
-ghost use Rattle.planner.specs.CircuitCall.{circuitAnswer, circuitSpectrum};
+ghost use Rattle.circuit.specs.CircuitCall.{circuitAnswer, circuitSpectrum};
 ghost use Rattle.planner.specs.PlanCall.{planVerdict, planAnswer, WorkKept};
 ghost use Rattle.report.specs.ReportCall.{reportAnswer, reportLeft, reportVerdict};
 ghost use Rattle.text.specs.Text.{fieldOf, fieldStart};
-ghost use Rattle.walsh.specs.Answers.{leaves, foundOf};
-ghost use Rattle.walsh.specs.Lists.{spectrumAnswer, rowsAnswer, rowsOf};
-ghost use Rattle.walsh.specs.Spectrum.{spectrumOf};
+ghost use Rattle.screen.specs.Answers.{leaves};
+ghost use Rattle.walsh.specs.Coefficients.{foundOf};
+ghost use Rattle.walsh.specs.Lists.{spectrumAnswer, rowsAnswer, inverseRows};
+ghost use Rattle.transform.specs.Spectrum.{spectrumOf};
 ghost use Rattle.capi.specs.Replies.{Gives, GivesFound, GivesPlan, GivesReport, GivesReading, GivesPair};
 
 // Number 0 where the call is done.
@@ -119,7 +120,7 @@ pub extern "C" fn walsh_spectrum(rows: &[i32], out: &mut [i32]) -> Reply
 #[no_mangle]
 pub extern "C" fn walsh_rows(coefficients: &[i32], out: &mut [i32]) -> Reply
     ensures { λ r. ⌜ Gives r (rowsAnswer (now (coefficients .entry)) (length (now (out .entry)))) ⌝ }
-    ensures { λ r. ⌜ now (out .exit) ≡ leaves (rowsAnswer (now (coefficients .entry)) (length (now (out .entry)))) (rowsOf (now (coefficients .entry))) (now (out .entry)) ⌝ }
+    ensures { λ r. ⌜ now (out .exit) ≡ leaves (rowsAnswer (now (coefficients .entry)) (length (now (out .entry)))) (inverseRows (now (coefficients .entry))) (now (out .entry)) ⌝ }
 {
     reply_to(walsh::rows(coefficients, out))
 }
@@ -153,7 +154,7 @@ pub extern "C" fn walsh_circuit(text: &[u8], fault: u32, out: &mut [i32]) -> Rep
     ensures { λ r. ⌜ Gives r (circuitAnswer (now (text .entry)) fault (length (now (out .entry)))) ⌝ }
     ensures { λ r. ⌜ now (out .exit) ≡ leaves (circuitAnswer (now (text .entry)) fault (length (now (out .entry)))) (circuitSpectrum (now (text .entry)) fault) (now (out .entry)) ⌝ }
 {
-    reply_to(planner::circuit_spectrum(text, fault, out))
+    reply_to(circuit::circuit_spectrum(text, fault, out))
 }
 
 // The plan of the text's circuit.

@@ -19,7 +19,7 @@ use lib.Seq.{take-suc, take-suc-set, take-all, length-take-le}
 use borrow.Author.Tests.{eqb-true, lt-ltb, le-ltb, ltb-true}
 use Rattle.integer.proofs.Bools.{both}
 use Rattle.cover.specs.Cover.{allBelow}
-use Rattle.cover.specs.Order.{keep, count, withOnes, byOnes, order, below, labelsBelow, before, rising}
+use Rattle.cover.specs.Order.{keep, count, withOnes, byOnes, order, below, labelsBelow, earlier, rising}
 use Rattle.cover.specs.Sets.{has, distinct}
 use Rattle.cover.specs.Steps.{Below}
 use Rattle.cover.proofs.Sets.{keep-sub, sub-distinct}
@@ -29,7 +29,7 @@ unfoldable pub in-table : ℕ → Bool
 in-table label = has label order
 
 pub order-rule : (eqb (length order) 256 && allBelow in-table 256 && rising order) ≡ true
-unfolding order byOnes withOnes keep count ones allBelow in-table has rising before
+unfolding order byOnes withOnes keep count ones allBelow in-table has rising earlier
 order-rule = refl
 
 pub order-start : take 12 order ≡ 0 ∷ 1 ∷ 2 ∷ 4 ∷ 8 ∷ 16 ∷ 32 ∷ 64 ∷ 128 ∷ 3 ∷ 5 ∷ 6 ∷ []
@@ -115,9 +115,9 @@ module _ (n : ℕ) where
         ∙ ap₂ (λ (l : List ℕ) (x : ℕ). l ++ (x ∷ [])) so-far here
         ∙ sym (one-more i h ∙ ap (λ (b : Bool). labels-to i ++ cond b (getD order i 0 ∷ []) []) kept)
 
-    pub passed : n ≤ label → take count labels ≡ labels-to (i + 1)
+    pub label-passed : n ≤ label → take count labels ≡ labels-to (i + 1)
     unfolding below
-    passed high =
+    label-passed high =
         let left = le-ltb (getD order i 0) n (subst (λ (x : ℕ). n ≤ x) here high) in
         so-far ∙ sym (one-more i h ∙ ap (λ (b : Bool). labels-to i ++ cond b (getD order i 0 ∷ []) []) left ∙ append-nil (labels-to i))
 

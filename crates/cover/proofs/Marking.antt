@@ -29,11 +29,11 @@ use Rattle.integer.specs.Tab.{tab, nth, Within}
 use Rattle.integer.proofs.Bounds.{natAbs-sub, within-more}
 use Rattle.integer.proofs.Machine.{sub-fits, sub-kept, sub-is, bit-is}
 use Rattle.integer.proofs.Tabs.{length-tab, getD-tab, tab-ext, tab-step, tab-ahead}
-use Rattle.walsh.specs.Spectrum.{signedSum, coefficientOf, spectrumOf}
+use Rattle.transform.specs.Spectrum.{signedSum, coefficientOf, spectrumOf}
 use Rattle.integer.proofs.Halves.{double}
-use Rattle.walsh.proofs.Halving.{sum-sub, sum-equal}
+use Rattle.transform.proofs.Halving.{sum-sub, sum-equal}
 use Rattle.cover.specs.Cover.{differ, allBelow, faultRows, covers}
-use Rattle.cover.specs.Steps.{bit, Below, differenceAt, differences, maskOf, bitAddedAt, bitAdded, markedAt, marked, coversAt, maskAt, masksOf}
+use Rattle.cover.specs.Steps.{bit, Below, rowDifferenceAt, differences, maskOf, bitAddedAt, bitAdded, markedAt, marked, coversAt, maskAt, masksOf}
 
 -- One difference, as the machine computes it.
 
@@ -75,11 +75,11 @@ module _ (a b : ℤ) (fa : SFits w32 a) (fb : SFits w32 b) where
 module _ (sound faulted : List ℤ) where
   pub length-differences : length (differences sound faulted) ≡ length sound
   unfolding differences
-  length-differences = length-tab (length sound) (differenceAt sound faulted)
+  length-differences = length-tab (length sound) (rowDifferenceAt sound faulted)
 
   difference-at : (x : ℕ) → x < length sound → nth (differences sound faulted) x ≡ nth sound x -ℤ nth faulted x
-  unfolding differences differenceAt
-  difference-at x h = getD-tab (length sound) (differenceAt sound faulted) (pos 0) x h
+  unfolding differences rowDifferenceAt
+  difference-at x h = getD-tab (length sound) (rowDifferenceAt sound faulted) (pos 0) x h
 
   module _ (even : length faulted ≡ length sound) where
     pub differences-within : (B : ℕ) → Within B sound → Within B faulted → Within (B + B) (differences sound faulted)

@@ -1,5 +1,5 @@
 -- Lists of labels that rise in the order:
---   before-trans, before-self    the order of two labels
+--   earlier-trans, earlier-self    the order of two labels
 --   sub-rising      a subsequence of a rising list rises
 --   labels-rising   the labels below n rise
 --   rising-set      a rising list of entries of a rising list ls is one of its sets
@@ -15,7 +15,7 @@ use lib.Dec.{eqb, ltb}
 use lib.ListN.{length}
 use borrow.Author.Tests.{eqb-true, eqb-false, eq-eqb, lt-ltb, ltb-true}
 use Rattle.integer.proofs.Bools.{clash, both, either}
-use Rattle.cover.specs.Order.{below, order, labelsBelow, before, rising}
+use Rattle.cover.specs.Order.{below, order, labelsBelow, earlier, rising}
 use Rattle.cover.specs.Sets.{setsOf, subsequence, precedes}
 use Rattle.cover.proofs.LabelOrder.{order-rising}
 use Rattle.cover.proofs.Sets.{Earliest, keep-sub, sub-mem}
@@ -23,47 +23,47 @@ use Rattle.cover.proofs.Sizes.{sets-length, sets-sub}
 
 -- The order of two labels.
 
-abbrev Before : ℕ → ℕ → Type 0
-Before a b = (ones a < ones b) ⊎ ((ones a ≡ ones b) × (a < b))
+abbrev Earlier : ℕ → ℕ → Type 0
+Earlier a b = (ones a < ones b) ⊎ ((ones a ≡ ones b) × (a < b))
 
-before-says : (a b : ℕ) → before a b ≡ true → Before a b
-unfolding before
-before-says a b e =
+earlier-says : (a b : ℕ) → earlier a b ≡ true → Earlier a b
+unfolding earlier
+earlier-says a b e =
     ⊎-elim (λ h. inl (ltb-true (ones a) (ones b) h))
     (λ h. let r = both (eqb (ones a) (ones b)) (ltb a b) h in inr (eqb-true (ones a) (ones b) (r .0), ltb-true a b (r .1)))
     (either (ltb (ones a) (ones b)) (eqb (ones a) (ones b) && ltb a b) e)
 
-says-before : (a b : ℕ) → Before a b → before a b ≡ true
-unfolding before
-says-before a b h =
+says-earlier : (a b : ℕ) → Earlier a b → earlier a b ≡ true
+unfolding earlier
+says-earlier a b h =
     ⊎-elim (λ l. ap (λ (t : Bool). t || eqb (ones a) (ones b) && ltb a b) (lt-ltb (ones a) (ones b) l))
     (λ r. ap₂ (λ (s t : Bool). ltb (ones a) (ones b) || s && t) (eq-eqb (ones a) (ones b) (r .0)) (lt-ltb a b (r .1)) ∙ or-true (ltb (ones a) (ones b)))
     h
 
-pub before-trans : (a b c : ℕ) → before a b ≡ true → before b c ≡ true → before a c ≡ true
-before-trans a b c u v =
-    says-before a c
-    (⊎-elim (λ h. ⊎-elim (λ k. inl (omega arith)) (λ k. inl (let e = k .0 in omega arith)) (before-says b c v))
-    (λ h. ⊎-elim (λ k. inl (let e = h .0 in omega arith)) (λ k. inr (h .0 ∙ k .0, let x = h .1 in let y = k .1 in omega arith)) (before-says b c v))
-    (before-says a b u))
+pub earlier-trans : (a b c : ℕ) → earlier a b ≡ true → earlier b c ≡ true → earlier a c ≡ true
+earlier-trans a b c u v =
+    says-earlier a c
+    (⊎-elim (λ h. ⊎-elim (λ k. inl (omega arith)) (λ k. inl (let e = k .0 in omega arith)) (earlier-says b c v))
+    (λ h. ⊎-elim (λ k. inl (let e = h .0 in omega arith)) (λ k. inr (h .0 ∙ k .0, let x = h .1 in let y = k .1 in omega arith)) (earlier-says b c v))
+    (earlier-says a b u))
 
-pub before-self : (a : ℕ) → before a a ≡ true → ⊥
-before-self a e = ⊎-elim (λ h. omega arith) (λ h. let l = h .1 in omega arith) (before-says a a e)
+pub earlier-self : (a : ℕ) → earlier a a ≡ true → ⊥
+earlier-self a e = ⊎-elim (λ h. omega arith) (λ h. let l = h .1 in omega arith) (earlier-says a a e)
 
 -- Rising lists.
 
-rising-cons : (x : ℕ) (xs : List ℕ) → ((y : ℕ) → List·Memᴰ y xs → before x y ≡ true) → rising xs ≡ true → rising (x ∷ xs) ≡ true
+rising-cons : (x : ℕ) (xs : List ℕ) → ((y : ℕ) → List·Memᴰ y xs → earlier x y ≡ true) → rising xs ≡ true → rising (x ∷ xs) ≡ true
 unfolding rising
 rising-cons x [] h e = refl
 rising-cons x (y ∷ xs) h e = ap₂ _&&_ (h y (List·Memᴰ·head refl)) e
 
-rising-parts : (x : ℕ) (xs : List ℕ) → rising (x ∷ xs) ≡ true → ((y : ℕ) → List·Memᴰ y xs → before x y ≡ true) × (rising xs ≡ true)
+rising-parts : (x : ℕ) (xs : List ℕ) → rising (x ∷ xs) ≡ true → ((y : ℕ) → List·Memᴰ y xs → earlier x y ≡ true) × (rising xs ≡ true)
 unfolding rising
 rising-parts x [] e = (λ y m. absurd (List·Memᴰ·not-nil m), refl)
 rising-parts x (z ∷ xs) e =
-    let r = both (before x z) (rising (z ∷ xs)) e in
+    let r = both (earlier x z) (rising (z ∷ xs)) e in
     let s = rising-parts z xs (r .1) in
-    (λ y m. ⊎-elim (λ k. ap (before x) k ∙ r .0) (λ n. before-trans x z y (r .0) (s .0 y n)) (List·Memᴰ·cases-cons m), r .1)
+    (λ y m. ⊎-elim (λ k. ap (earlier x) k ∙ r .0) (λ n. earlier-trans x z y (r .0) (s .0 y n)) (List·Memᴰ·cases-cons m), r .1)
 
 pub sub-rising : (xs ls : List ℕ) → subsequence xs ls ≡ true → rising ls ≡ true → rising xs ≡ true
 unfolding subsequence rising
@@ -74,7 +74,7 @@ sub-rising (x ∷ xs) (l ∷ ls) e r =
     ⊎-elim
     (λ h. let k = both (eqb l x) (subsequence xs ls) h in
     let same = eqb-true l x (k .0) in
-    rising-cons x xs (λ y m. subst (λ (z : ℕ). before z y ≡ true) same (s .0 y (sub-mem xs ls (k .1) y m))) (sub-rising xs ls (k .1) (s .1)))
+    rising-cons x xs (λ y m. subst (λ (z : ℕ). earlier z y ≡ true) same (s .0 y (sub-mem xs ls (k .1) y m))) (sub-rising xs ls (k .1) (s .1)))
     (λ h. sub-rising (x ∷ xs) ls h (s .1))
     (either (eqb l x && subsequence xs ls) (subsequence (x ∷ xs) ls) e)
 
@@ -92,22 +92,22 @@ rising-set (l ∷ ls) (y ∷ ys) r s sub =
     go p q (eqb y l) refl (λ h. rising-set ls ys (p .1) (q .1) h) (λ h. rising-set ls (y ∷ ys) (p .1) s h)
   where
     -- an entry of ys is not l where y is l or stands behind it
-    rest : ((z : ℕ) → List·Memᴰ z ys → before y z ≡ true) → (before y l ≡ true → ⊥) → (z : ℕ) → List·Memᴰ z ys → List·Memᴰ z ls
-    rest q behind z m = ⊎-elim (λ e. absurd (behind (subst (λ (x : ℕ). before y x ≡ true) e (q z m)))) (λ k. k) (List·Memᴰ·cases-cons (sub z (List·Memᴰ·tail m)))
+    rest : ((z : ℕ) → List·Memᴰ z ys → earlier y z ≡ true) → (earlier y l ≡ true → ⊥) → (z : ℕ) → List·Memᴰ z ys → List·Memᴰ z ls
+    rest q behind z m = ⊎-elim (λ e. absurd (behind (subst (λ (x : ℕ). earlier y x ≡ true) e (q z m)))) (λ k. k) (List·Memᴰ·cases-cons (sub z (List·Memᴰ·tail m)))
 
-    go : ((z : ℕ) → List·Memᴰ z ls → before l z ≡ true) × (rising ls ≡ true) → ((z : ℕ) → List·Memᴰ z ys → before y z ≡ true) × (rising ys ≡ true)
+    go : ((z : ℕ) → List·Memᴰ z ls → earlier l z ≡ true) × (rising ls ≡ true) → ((z : ℕ) → List·Memᴰ z ys → earlier y z ≡ true) × (rising ys ≡ true)
         → (t : Bool) → eqb y l ≡ t
         → (((z : ℕ) → List·Memᴰ z ys → List·Memᴰ z ls) → List·Memᴰ ys (setsOf (length ys) ls))
         → (((z : ℕ) → List·Memᴰ z (y ∷ ys) → List·Memᴰ z ls) → List·Memᴰ (y ∷ ys) (setsOf (suc (length ys)) ls))
         → List·Memᴰ (y ∷ ys) (map (λ xs. l ∷ xs) (setsOf (length ys) ls) ++ setsOf (suc (length ys)) ls)
     go p q true e here later =
         let same = eqb-true y l e in
-        let m = here (rest (q .0) (λ k. before-self l (subst (λ (x : ℕ). before x l ≡ true) same k))) in
+        let m = here (rest (q .0) (λ k. earlier-self l (subst (λ (x : ℕ). earlier x l ≡ true) same k))) in
         Memᴰ·append-left (setsOf (suc (length ys)) ls)
         (subst (λ (x : ℕ). List·Memᴰ (x ∷ ys) (map (λ xs. l ∷ xs) (setsOf (length ys) ls))) (sym same) (Memᴰ·map (λ (xs : List ℕ). l ∷ xs) m))
     go p q false e here later =
         let first : List·Memᴰ y ls = ⊎-elim (λ k. absurd (eqb-false y l e k)) (λ k. k) (List·Memᴰ·cases-cons (sub y (List·Memᴰ·head refl))) in
-        let behind : before y l ≡ true → ⊥ = λ k. before-self l (before-trans l y l (p .0 y first) k) in
+        let behind : earlier y l ≡ true → ⊥ = λ k. earlier-self l (earlier-trans l y l (p .0 y first) k) in
         Memᴰ·append-right (map (λ xs. l ∷ xs) (setsOf (length ys) ls))
         (later (λ z m. ⊎-elim (λ k. subst (λ (x : ℕ). List·Memᴰ x ls) (sym k) first) (λ k. rest (q .0) behind z k) (List·Memᴰ·cases-cons m)))
 
@@ -115,7 +115,7 @@ rising-set (l ∷ ls) (y ∷ ys) r s sub =
 
 precedes-cons : (l : ℕ) (xs ys : List ℕ) → precedes xs ys ≡ true → precedes (l ∷ xs) (l ∷ ys) ≡ true
 unfolding precedes
-precedes-cons l xs ys e = ap₂ (λ (s t : Bool). before l l || s && t) (eq-eqb l l refl) e ∙ or-true (before l l)
+precedes-cons l xs ys e = ap₂ (λ (s t : Bool). earlier l l || s && t) (eq-eqb l l refl) e ∙ or-true (earlier l l)
 
 precedes-self : (xs : List ℕ) → precedes xs xs ≡ true
 unfolding precedes
@@ -156,7 +156,7 @@ sets-lead (suc k) (l ∷ ls) r =
     (λ x y m n. let w = Memᴰ·of-map (λ (xs : List ℕ). l ∷ xs) (setsOf k ls) m in
     subst (λ (z : List ℕ). precedes z y ≡ true) (w .2) (ahead (w .0) y (s .0) (sets-length (suc k) ls y n) (sets-sub (suc k) ls y n)))
   where
-    ahead : (x y : List ℕ) → ((z : ℕ) → List·Memᴰ z ls → before l z ≡ true) → length y ≡ suc k → ((z : ℕ) → List·Memᴰ z y → List·Memᴰ z ls) → precedes (l ∷ x) y ≡ true
+    ahead : (x y : List ℕ) → ((z : ℕ) → List·Memᴰ z ls → earlier l z ≡ true) → length y ≡ suc k → ((z : ℕ) → List·Memᴰ z y → List·Memᴰ z ls) → precedes (l ∷ x) y ≡ true
     ahead x [] h e sub = absurd (omega arith)
     ahead x (z ∷ y) h e sub = ap (λ (t : Bool). t || eqb l z && precedes x y) (h z (sub z (List·Memᴰ·head refl)))
 

@@ -24,7 +24,7 @@ use borrow.Author.Tests.{eqb-true, eqb-false, not-true, not-false}
 use Rattle.integer.specs.Tab.{nth}
 use Rattle.integer.proofs.Firsts.{first-at, first-before}
 use Rattle.integer.proofs.Group.{equal-by-size}
-use Rattle.walsh.specs.Spectrum.{coefficientOf}
+use Rattle.transform.specs.Spectrum.{coefficientOf}
 use Rattle.cover.specs.Cover.{differ, faultRows, covers, coversFault, coversAll, sameAt, silent, silentAt, firstSilent, signatureOf}
 use Rattle.cover.specs.Order.{count, labelsBelow, rising}
 use Rattle.cover.specs.Sets.{planOf, setsOf, upTo, distinct, subsequence, precedes}

@@ -72,7 +72,7 @@ fn mark_by(
     if differ(sound, faulted, work) {
         return true;
     }
-    walsh::transform(work, inputs);
+    transform::transform(work, inputs);
     add_marks(work, labels, 1 << fault, masks);
     false
 }

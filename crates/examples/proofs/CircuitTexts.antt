@@ -6,18 +6,20 @@ use mathlib.Core.Path.{_≡_, refl}
 use mathlib.Core.List.{[], _∷_}
 use Prim.Native.Nat.{ℕ}
 use lib.IntN.{pos}
-use Rattle.text.specs.Writing.{decimalTo, decimalOf, integerOf, gather, numberField, numbersOf, lineOf}
+use Rattle.writing.specs.Writing.{decimalTo, decimalOf, integerOf, gather, numberField, numbersOf, lineOf}
 use Rattle.statements.specs.Items.{free}
-use Rattle.statements.specs.Lines.{kindWord}
+use Rattle.kinds.specs.Kinds.{kindWord}
 use Rattle.statements.specs.declared.Fault.{Fault}
 use Rattle.statements.specs.declared.Gate.{Gate}
-use Rattle.statements.specs.declared.Kind.{Kind}
-use Rattle.statements.specs.declared.Kind.the-variants.{And, Or, Not}
+use Rattle.kinds.specs.declared.Kind.{Kind}
+use Rattle.kinds.specs.declared.Kind.the-variants.{And, Or, Not}
 use Rattle.statements.specs.declared.Output.{Output}
-use Rattle.statements.specs.declared.Stuck.{Stuck}
-use Rattle.netlist.specs.CircuitText.{headLine, gateLine, outputLine, pairOf, faultLine, eachLine, textOf as circuitText}
+use Rattle.statements.specs.declared.Pair.{Pair}
+use Rattle.netlist.specs.CircuitText.{headLine, gateLine, outputLine, textOf}
+use Rattle.sections.specs.FaultLines.{pairWritten, faultLine}
+use Rattle.sections.specs.Sections.{eachLine}
 use Rattle.netlist.specs.Circuits.{Netlist}
-use Rattle.examples.specs.Texts.{bytesOf, textOf, gatedText, listing}
+use Rattle.examples.specs.Texts.{textOfLines, gatedText, listing}
 
 abbrev gate : Kind → ℕ → ℕ → Gate
 gate kind a b = record { kind = kind; a = a; b = b }
@@ -25,10 +27,10 @@ gate kind a b = record { kind = kind; a = a; b = b }
 abbrev output : ℕ → ℕ → Output
 output line weight = record { line = line; weight = pos weight }
 
-abbrev at : ℕ → Bool → Stuck
+abbrev at : ℕ → Bool → Pair
 at line value = record { line = line; value = value }
 
-abbrev fault : Stuck → Stuck → Fault
+abbrev fault : Pair → Pair → Fault
 fault first second = record { first = first; second = second; third = free }
 
 abbrev pub listingCircuit : Netlist
@@ -51,10 +53,10 @@ gatedCircuit =
       cap = 1;
     }
 
-pub listing-written : circuitText listingCircuit ≡ listing
-unfolding circuitText headLine kindWord gateLine outputLine pairOf faultLine eachLine lineOf numbersOf numberField gather integerOf decimalOf decimalTo listing textOf bytesOf
+pub listing-written : textOf listingCircuit ≡ listing
+unfolding textOf headLine kindWord gateLine outputLine pairWritten faultLine eachLine lineOf numbersOf numberField gather integerOf decimalOf decimalTo listing textOfLines
 listing-written = refl
 
-pub gated-written : circuitText gatedCircuit ≡ gatedText
-unfolding circuitText headLine kindWord gateLine outputLine pairOf faultLine eachLine lineOf numbersOf numberField gather integerOf decimalOf decimalTo gatedText textOf bytesOf
+pub gated-written : textOf gatedCircuit ≡ gatedText
+unfolding textOf headLine kindWord gateLine outputLine pairWritten faultLine eachLine lineOf numbersOf numberField gather integerOf decimalOf decimalTo gatedText textOfLines
 gated-written = refl

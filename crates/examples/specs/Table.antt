@@ -9,15 +9,16 @@ use lib.IntN.{ℤ, pos}
 use lib.ListN.{length, replicate, take}
 use Rattle.integer.specs.Tab.{nth}
 use Rattle.fixture.specs.ReadingCall.{readingAnswer, pairAnswer}
-use Rattle.planner.specs.CircuitCall.{circuitAnswer, circuitSpectrum}
-use Rattle.planner.specs.PlanCall.{planned, refused, workDue, planNumbers, planAnswer}
+use Rattle.circuit.specs.CircuitCall.{circuitAnswer, circuitSpectrum}
+use Rattle.planner.specs.PlanCall.{planned, refused, workingNumbers, planNumbers, planAnswer}
 use Rattle.reading.specs.declared.Reading.{Reading}
 use Rattle.reading.specs.declared.Reading.the-variants.{Syndrome, Weighted, Constrained, Refused}
-use Rattle.report.specs.ReportCall.{bytesDue, reportAnswer, reportLeft}
+use Rattle.report.specs.ReportCall.{reportBytes, reportAnswer, reportLeft}
 use Rattle.report.specs.declared.Reported.{Reported}
-use Rattle.walsh.specs.Answers.{minus, leaves, foundOf}
-use Rattle.walsh.specs.Lists.{spectrumAnswer, rowsAnswer, rowsOf}
-use Rattle.walsh.specs.Spectrum.{coefficientOf, spectrumOf}
+use Rattle.screen.specs.Answers.{minus, leaves}
+use Rattle.walsh.specs.Coefficients.{foundOf}
+use Rattle.walsh.specs.Lists.{spectrumAnswer, rowsAnswer, inverseRows}
+use Rattle.transform.specs.Spectrum.{coefficientOf, spectrumOf}
 use Rattle.faults.specs.Faults.{stuckOf, stuckAnswer, stuckSpectrumOf, stuckRows, keptInputs, openedAnswer, openedSpectrumOf, openedRows}
 use Rattle.walsh.specs.declared.Found.the-variants.{Coefficient}
 use Rattle.examples.specs.Functions.{figure, productOrInput, selected, gated, gatedOpened}
@@ -56,7 +57,7 @@ abbrev pub spectrumLeft : List ℤ → List ℤ
 spectrumLeft rows = leaves (spectrumAnswer rows (length rows)) (spectrumOf rows) (lent (length rows))
 
 abbrev pub rowsLeft : List ℤ → List ℤ
-rowsLeft c = leaves (rowsAnswer c (length c)) (rowsOf c) (lent (length c))
+rowsLeft c = leaves (rowsAnswer c (length c)) (inverseRows c) (lent (length c))
 
 abbrev pub stuckLeft : List ℤ → List ℕ → List ℕ → List ℤ
 stuckLeft c inputs values = leaves (stuckAnswer c inputs values (length c)) (stuckSpectrumOf (stuckOf inputs values) c) (lent (length c))
@@ -69,10 +70,10 @@ circuitLeft text fault room = leaves (circuitAnswer text fault room) (circuitSpe
 
 -- with as many bytes and working numbers as are due
 abbrev pub reported : List ℕ → Reported
-reported text = reportAnswer text bytesDue workDue
+reported text = reportAnswer text reportBytes workingNumbers
 
-abbrev pub reportBytes : List ℕ → List ℕ
-reportBytes text = take (reported text .bytes) (reportLeft text workDue (replicate bytesDue 0))
+abbrev pub reportedBytes : List ℕ → List ℕ
+reportedBytes text = take (reported text .bytes) (reportLeft text workingNumbers (replicate reportBytes 0))
 
 -- ±n / 10 ^ places as a binary64
 unfoldable pub decimal : Bool → ℕ → ℕ → Float
@@ -92,9 +93,9 @@ Holds (stuck rows inputs values z) = (nth (stuckLeft (spectrumOf rows) inputs va
 Holds (opened rows values z) = (nth (openedLeft (spectrumOf rows) values) 0 ≡ z) × (coefficientOf (openedRows (keptInputs rows values) values rows) 0 ≡ z)
 Holds (circuit text fault coefficients) = circuitLeft text fault (length coefficients) ≡ coefficients
 Holds (total text rows fault z) = nth (circuitLeft text fault rows) 0 ≡ z
-Holds (plan text labels) = planAnswer text workDue ≡ planNumbers (planned labels)
-Holds (noPlan text number place) = planAnswer text workDue ≡ planNumbers (refused number place)
-Holds (report text bytes) = (reported text .number ≡ 0) × (reportBytes text ≡ bytes)
+Holds (plan text labels) = planAnswer text workingNumbers ≡ planNumbers (planned labels)
+Holds (noPlan text number place) = planAnswer text workingNumbers ≡ planNumbers (refused number place)
+Holds (report text bytes) = (reported text .number ≡ 0) × (reportedBytes text ≡ bytes)
 Holds (reads text mask values r) = readingAnswer text mask values ≡ r
 Holds (compares text fault mask values sound faulty difference) =
     pairAnswer text fault mask values ≡ record { number = 0; place = 0; readings = record { sound = sound; faulty = faulty; difference = difference } }

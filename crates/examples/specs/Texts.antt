@@ -1,23 +1,18 @@
 -- The circuit texts of document 01's examples, a string for each line, and that of the old tool's failure: 129 ones in 256 rows.
 use Prim.Native.Nat.{ℕ}
-use Prim.Native.Char.{code}
-use Prim.Native.String.{String, [] as none, _∷_ as _then_}
+use Prim.Native.String.{String}
 use mathlib.Core.List.{List, [], _∷_, _++_}
-
--- the bytes of a line of ASCII
-unfoldable pub bytesOf : String → List ℕ
-bytesOf none = []
-bytesOf (c then s) = code c ∷ bytesOf s
+use Rattle.text.specs.Text.{bytesOf}
 
 -- each line ends in one byte 0A
-unfoldable pub textOf : List String → List ℕ
-textOf [] = []
-textOf (line ∷ lines) = bytesOf line ++ (10 ∷ textOf lines)
+unfoldable pub textOfLines : List String → List ℕ
+textOfLines [] = []
+textOfLines (line ∷ lines) = bytesOf line ++ (10 ∷ textOfLines lines)
 
 -- x1x2 + x3
 unfoldable pub productOrInputText : List ℕ
 productOrInputText =
-    textOf
+    textOfLines
     ("circuit,3,2,1,4,1"
     ∷ "gate,and,1,2"
     ∷ "gate,or,3,4"
@@ -31,7 +26,7 @@ productOrInputText =
 -- x1x2x3 + x4·not(x2x3)
 unfoldable pub gatedText : List ℕ
 gatedText =
-    textOf
+    textOfLines
     ("circuit,4,5,1,4,1"
     ∷ "gate,and,2,3"
     ∷ "gate,and,1,5"
@@ -48,7 +43,7 @@ gatedText =
 -- the listing: x1x2 + x3·not x2
 unfoldable pub listing : List ℕ
 listing =
-    textOf
+    textOfLines
     ("circuit,3,4,1,2,2"
     ∷ "gate,not,2,0"
     ∷ "gate,and,1,2"
@@ -61,19 +56,19 @@ listing =
 
 -- what `signature` writes for it
 unfoldable pub listingReport : List ℕ
-listingReport = textOf ("plan,1" ∷ "label,1,-2" ∷ "fault,1,1,0" ∷ "fault,2,1,-4" ∷ [])
+listingReport = textOfLines ("plan,1" ∷ "label,1,-2" ∷ "fault,1,1,0" ∷ "fault,2,1,-4" ∷ [])
 
 -- x1 + x1x2, whose product at 0 changes nothing
 unfoldable pub silentText : List ℕ
-silentText = textOf ("circuit,2,2,1,1,1" ∷ "gate,and,1,2" ∷ "gate,or,1,3" ∷ "output,4,1" ∷ "fault,3,0" ∷ [])
+silentText = textOfLines ("circuit,2,2,1,1,1" ∷ "gate,and,1,2" ∷ "gate,or,1,3" ∷ "output,4,1" ∷ "fault,3,0" ∷ [])
 
 unfoldable pub silentReport : List ℕ
-silentReport = textOf ("refused,13,1" ∷ [])
+silentReport = textOfLines ("refused,13,1" ∷ [])
 
 -- two inputs, each through a line that is always 0 and is feared to be 1
 unfoldable pub pairText : String → List ℕ
 pairText head =
-    textOf
+    textOfLines
     (head
     ∷ "gate,xor,1,1"
     ∷ "gate,xor,1,1"
@@ -88,7 +83,7 @@ pairText head =
 -- x8 + x1x2x3x4x5x6x7, on half of the rows and on one more; without the product on half of them
 unfoldable pub halfAndOneText : List ℕ
 halfAndOneText =
-    textOf
+    textOfLines
     ("circuit,8,7,1,1,1"
     ∷ "gate,and,1,2"
     ∷ "gate,and,3,9"

@@ -2,7 +2,7 @@
 --   both                                                a test made of two tests
 --   signed-none, signed-some                            `signed` at 0, and at another number
 --   binary-stop, -next, -end                            `binary`, one value after the other
---   rising-low, -high, -next, -end                      `rising`, one line after the other
+--   rising-low, -high, -next, -end                      `risingInputs`, one line after the other
 --   rising-rises, binary-values, binary-bits            what the two mean
 --   rising-cons, rising-suffix, length-stuck-of         one line more, and a part of the lines
 --   few-is, few-none, few-many                          one to three
@@ -25,9 +25,9 @@ use lib.Seq.{drop-cons}
 use borrow.Author.Tests.{ltb-true, leb-true, eqb-true, lt-ltb, le-ltb, le-leb, lt-leb, eq-eqb, ne-eqb}
 use Rattle.integer.specs.Sum.{signed}
 use Rattle.integer.proofs.Bools.{clash}
-use Rattle.walsh.specs.Answers.{inputsOf}
-use Rattle.walsh.proofs.Screens.{inputs-most, inputs-power}
-use Rattle.faults.specs.Faults.{keptInputs, stuckOf, rising, binary, fewOf, stuckRight, openedRight, linesAfter}
+use Rattle.screen.specs.Answers.{inputsOf}
+use Rattle.screen.proofs.Screens.{inputs-most, inputs-power}
+use Rattle.faults.specs.Faults.{keptInputs, stuckOf, risingInputs, binary, fewOf, stuckRight, openedRight, linesAfter}
 use Rattle.faults.specs.Steps.{keptOf}
 use Rattle.faults.proofs.Sticking.{Rises, Values}
 use Rattle.faults.proofs.Opening.{Bits}
@@ -63,56 +63,56 @@ module _ (values : List ℕ) (i : ℕ) where
 
 module _ (last n : ℕ) (lines : List ℕ) (i : ℕ) where
   abbrev inner : ℕ → Bool
-  inner line = cond (leb line n) (rising line n (drop (suc i) lines)) false
+  inner line = cond (leb line n) (risingInputs line n (drop (suc i) lines)) false
 
-  pub rising-low : i < length lines → getD lines i 0 ≤ last → rising last n (drop i lines) ≡ false
-  unfolding rising
-  rising-low h g = ap (rising last n) (drop-cons lines i 0 h) ∙ ap (λ (b : Bool). cond b (inner (getD lines i 0)) false) (le-ltb last (getD lines i 0) g)
+  pub rising-low : i < length lines → getD lines i 0 ≤ last → risingInputs last n (drop i lines) ≡ false
+  unfolding risingInputs
+  rising-low h g = ap (risingInputs last n) (drop-cons lines i 0 h) ∙ ap (λ (b : Bool). cond b (inner (getD lines i 0)) false) (le-ltb last (getD lines i 0) g)
 
   module _ (h : i < length lines) (above : last < getD lines i 0) where
-    passed : rising last n (drop i lines) ≡ inner (getD lines i 0)
-    unfolding rising
-    passed = ap (rising last n) (drop-cons lines i 0 h) ∙ ap (λ (b : Bool). cond b (inner (getD lines i 0)) false) (lt-ltb last (getD lines i 0) above)
+    passed : risingInputs last n (drop i lines) ≡ inner (getD lines i 0)
+    unfolding risingInputs
+    passed = ap (risingInputs last n) (drop-cons lines i 0 h) ∙ ap (λ (b : Bool). cond b (inner (getD lines i 0)) false) (lt-ltb last (getD lines i 0) above)
 
-    pub rising-high : n < getD lines i 0 → rising last n (drop i lines) ≡ false
-    rising-high g = passed ∙ ap (λ (b : Bool). cond b (rising (getD lines i 0) n (drop (suc i) lines)) false) (lt-leb (getD lines i 0) n g)
+    pub rising-high : n < getD lines i 0 → risingInputs last n (drop i lines) ≡ false
+    rising-high g = passed ∙ ap (λ (b : Bool). cond b (risingInputs (getD lines i 0) n (drop (suc i) lines)) false) (lt-leb (getD lines i 0) n g)
 
-    pub rising-next : getD lines i 0 ≤ n → rising last n (drop i lines) ≡ rising (getD lines i 0) n (drop (i + 1) lines)
+    pub rising-next : getD lines i 0 ≤ n → risingInputs last n (drop i lines) ≡ risingInputs (getD lines i 0) n (drop (i + 1) lines)
     rising-next g =
-        passed ∙ ap (λ (b : Bool). cond b (rising (getD lines i 0) n (drop (suc i) lines)) false) (le-leb (getD lines i 0) n g)
-        ∙ ap (λ (k : ℕ). rising (getD lines i 0) n (drop k lines)) (sym (add-one i))
+        passed ∙ ap (λ (b : Bool). cond b (risingInputs (getD lines i 0) n (drop (suc i) lines)) false) (le-leb (getD lines i 0) n g)
+        ∙ ap (λ (k : ℕ). risingInputs (getD lines i 0) n (drop k lines)) (sym (add-one i))
 
-  pub rising-end : length lines ≤ i → rising last n (drop i lines) ≡ true
-  unfolding rising
-  rising-end h = ap (rising last n) (drop-of-length-le lines h)
+  pub rising-end : length lines ≤ i → risingInputs last n (drop i lines) ≡ true
+  unfolding risingInputs
+  rising-end h = ap (risingInputs last n) (drop-of-length-le lines h)
 
 -- What the tests mean.
 
-pub rising-rises : (last n : ℕ) (lines values : List ℕ) → rising last n lines ≡ true → Rises last n (stuckOf lines values)
-unfolding rising stuckOf
+pub rising-rises : (last n : ℕ) (lines values : List ℕ) → risingInputs last n lines ≡ true → Rises last n (stuckOf lines values)
+unfolding risingInputs stuckOf
 rising-rises last n [] values e = tt
 rising-rises last n (i ∷ rest) [] e = tt
 rising-rises last n (i ∷ rest) (v ∷ values) e =
-    let p = both (ltb last i) (cond (leb i n) (rising i n rest) false) e in
-    let q = both (leb i n) (rising i n rest) (p .1) in
+    let p = both (ltb last i) (cond (leb i n) (risingInputs i n rest) false) e in
+    let q = both (leb i n) (risingInputs i n rest) (p .1) in
     (ltb-true last i (p .0), leb-true i n (q .0), rising-rises i n rest values (q .1))
 
-pub rising-cons : (last n i : ℕ) (rest : List ℕ) → last < i → i ≤ n → rising i n rest ≡ true → rising last n (i ∷ rest) ≡ true
-unfolding rising
+pub rising-cons : (last n i : ℕ) (rest : List ℕ) → last < i → i ≤ n → risingInputs i n rest ≡ true → risingInputs last n (i ∷ rest) ≡ true
+unfolding risingInputs
 rising-cons last n i rest h l e = rw (lt-ltb last i h, le-leb i n l) e
 
-pub rising-suffix : (last n : ℕ) (lines : List ℕ) (i : ℕ) → rising last n lines ≡ true → rising 0 n (drop i lines) ≡ true
-unfolding rising
+pub rising-suffix : (last n : ℕ) (lines : List ℕ) (i : ℕ) → risingInputs last n lines ≡ true → risingInputs 0 n (drop i lines) ≡ true
+unfolding risingInputs
 rising-suffix last n [] zero e = refl
 rising-suffix last n [] (suc i) e = refl
 rising-suffix last n (line ∷ rest) zero e =
-    let p = both (ltb last line) (cond (leb line n) (rising line n rest) false) e in
-    let q = both (leb line n) (rising line n rest) (p .1) in
+    let p = both (ltb last line) (cond (leb line n) (risingInputs line n rest) false) e in
+    let q = both (leb line n) (risingInputs line n rest) (p .1) in
     let h = ltb-true last line (p .0) in
     rising-cons 0 n line rest (omega arith) (leb-true line n (q .0)) (q .1)
 rising-suffix last n (line ∷ rest) (suc i) e =
-    let p = both (ltb last line) (cond (leb line n) (rising line n rest) false) e in
-    let q = both (leb line n) (rising line n rest) (p .1) in
+    let p = both (ltb last line) (cond (leb line n) (risingInputs line n rest) false) e in
+    let q = both (leb line n) (risingInputs line n rest) (p .1) in
     rising-suffix line n rest i (q .1)
 
 pub length-stuck-of : (lines values : List ℕ) → length (stuckOf lines values) ≤ length lines
@@ -165,7 +165,7 @@ module _ (n : ℕ) (inputs values : List ℕ) where
   unfolding stuckRight
   stuck-uneven e f = rw (e, ne-eqb (length values) (length inputs) f)
 
-  pub stuck-binary : fewOf (length inputs) ≡ true → length values ≡ length inputs → stuckRight n inputs values ≡ cond (binary values) (rising 0 n inputs) false
+  pub stuck-binary : fewOf (length inputs) ≡ true → length values ≡ length inputs → stuckRight n inputs values ≡ cond (binary values) (risingInputs 0 n inputs) false
   unfolding stuckRight
   stuck-binary e f = rw (e, eq-eqb (length values) (length inputs) f)
 
@@ -174,14 +174,14 @@ pub record StuckRight (n : ℕ) (inputs values : List ℕ) : Type 0 where
   pub some : 1 ≤ length inputs
   pub even : length values ≡ length inputs
   pub bits : binary values ≡ true
-  pub rise : rising 0 n inputs ≡ true
+  pub rise : risingInputs 0 n inputs ≡ true
 
 pub stuck-right-means : (n : ℕ) (inputs values : List ℕ) → stuckRight n inputs values ≡ true → StuckRight n inputs values
 unfolding stuckRight
 stuck-right-means n inputs values e =
     let p = both (fewOf (length inputs)) _ e in
     let q = both (eqb (length values) (length inputs)) _ (p .1) in
-    let r = both (binary values) (rising 0 n inputs) (q .1) in
+    let r = both (binary values) (risingInputs 0 n inputs) (q .1) in
     let k = few-means (length inputs) (p .0) in
     record { few = k .1; some = k .0; even = eqb-true (length values) (length inputs) (q .0); bits = r .0; rise = r .1 }
 
@@ -247,8 +247,8 @@ lines-after n (u ∷ v ∷ w ∷ []) h =
     rw (add-one, e, g)
 lines-after n (u ∷ v ∷ w ∷ x ∷ values) h = absurd (omega arith)
 
-pub rising-after : (n m k : ℕ) → k ≤ 3 → n + k ≤ m → rising 0 m (take k ((n + 1) ∷ (n + 2) ∷ (n + 3) ∷ [])) ≡ true
-unfolding rising
+pub rising-after : (n m k : ℕ) → k ≤ 3 → n + k ≤ m → risingInputs 0 m (take k ((n + 1) ∷ (n + 2) ∷ (n + 3) ∷ [])) ≡ true
+unfolding risingInputs
 rising-after n m zero h l = refl
 rising-after n m (suc zero) h l = rising-cons 0 m (n + 1) [] (omega arith) (omega arith) refl
 rising-after n m (suc (suc zero)) h l =

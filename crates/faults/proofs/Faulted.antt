@@ -19,12 +19,12 @@ use lib.ListN.{length}
 use borrow.Author.Tests.{le-ltb, lt-ltb, ltb-true, eq-eqb, ne-eqb}
 use Rattle.integer.proofs.Bools.{clash}
 use Rattle.integer.proofs.Firsts.{first-none, first-all, first-at}
-use Rattle.walsh.specs.Answers.{numberOf, andThen, minus, inputsOf, screenOf}
-use Rattle.walsh.specs.Spectrum.{spectrumOf}
-use Rattle.walsh.specs.declared.Answer.{Answer}
-use Rattle.walsh.specs.declared.Answer.the-variants.{Done, Refused}
-use Rattle.walsh.proofs.Screens.{ready, inputs-power, screen-not-11, first-passed}
-use Rattle.walsh.proofs.Spectra.{length-spectrum}
+use Rattle.screen.specs.Answers.{answerNumber, andThen, minus, inputsOf, screenOf}
+use Rattle.transform.specs.Spectrum.{spectrumOf}
+use Rattle.screen.specs.declared.Answer.{Answer}
+use Rattle.screen.specs.declared.Answer.the-variants.{Done, Refused}
+use Rattle.screen.proofs.Screens.{ready, inputs-power, screen-not-11, first-passed}
+use Rattle.transform.proofs.Spectra.{length-spectrum}
 use Rattle.faults.specs.Faults.{Stuck, bitOf, stuckOf, stuckAnswer, stuckSpectrumOf, stuckRows, replaced, keptInputs, openedRight, openedAnswer, openedSpectrumOf, openedRows, openedSumAt, undividedAnswer, firstUndivided, undividedAt}
 use Rattle.faults.proofs.Arguments.{stuck-right-means, opened-right-means, rising-rises, binary-values, binary-bits}
 use Rattle.faults.proofs.Digits.{put-shows, put-keeps}
@@ -96,21 +96,21 @@ module _ (c : List ℤ) (values : List ℕ) where
   at-first h = undivided-means (firstUndivided c values) (first-at (undividedAt c values) (2 ^ keptInputs c values) h)
 
   pub undivided-exactly : (room : ℕ) → screened c values room ≡ Done
-      → (numberOf (openedAnswer c values room) ≡ 11) ↔ ((label : ℕ) × (label < 2 ^ keptInputs c values) × Undivided label)
+      → (answerNumber (openedAnswer c values room) ≡ 11) ↔ ((label : ℕ) × (label < 2 ^ keptInputs c values) × Undivided label)
   unfolding openedAnswer undividedAnswer
-  undivided-exactly room e = (λ n. to (ltb (firstUndivided c values) (2 ^ keptInputs c values)) refl (sym (ap numberOf passed) ∙ n), λ s. ap numberOf passed ∙ from s)
+  undivided-exactly room e = (λ n. to (ltb (firstUndivided c values) (2 ^ keptInputs c values)) refl (sym (ap answerNumber passed) ∙ n), λ s. ap answerNumber passed ∙ from s)
     where
       passed : openedAnswer c values room ≡ undividedAnswer c values
       passed = ap (λ (a : Answer). andThen a (undividedAnswer c values)) e
 
-      to : (b : Bool) → ltb (firstUndivided c values) (2 ^ keptInputs c values) ≡ b → numberOf (cond b (Refused 11 (firstUndivided c values)) Done) ≡ 11
+      to : (b : Bool) → ltb (firstUndivided c values) (2 ^ keptInputs c values) ≡ b → answerNumber (cond b (Refused 11 (firstUndivided c values)) Done) ≡ 11
           → (label : ℕ) × (label < 2 ^ keptInputs c values) × Undivided label
       to true t n = let l = ltb-true (firstUndivided c values) (2 ^ keptInputs c values) t in (firstUndivided c values, l, at-first l)
       to false t n = absurd (omega arith)
 
-      from : (label : ℕ) × (label < 2 ^ keptInputs c values) × Undivided label → numberOf (undividedAnswer c values) ≡ 11
+      from : (label : ℕ) × (label < 2 ^ keptInputs c values) × Undivided label → answerNumber (undividedAnswer c values) ≡ 11
       from s =
-          ap (λ (b : Bool). numberOf (cond b (Refused 11 (firstUndivided c values)) Done))
+          ap (λ (b : Bool). answerNumber (cond b (Refused 11 (firstUndivided c values)) Done))
           (lt-ltb (firstUndivided c values) (2 ^ keptInputs c values) (first-in (s .0) (s .1) (s .2)))
 
 -- the tests before 11 passed
@@ -119,15 +119,15 @@ right-of rows values room e =
     let k = ready 2048000 _ (spectrumOf rows) room (2 ^ keptInputs (spectrumOf rows) values) e in
     ap (λ (n : ℕ). openedRight n values) (sym (rows-inputs rows)) ∙ k .right
 
-pub opened-never-11 : (rows : List ℤ) (values : List ℕ) (room : ℕ) → numberOf (openedAnswer (spectrumOf rows) values room) ≡ 11 → ⊥
+pub opened-never-11 : (rows : List ℤ) (values : List ℕ) (room : ℕ) → answerNumber (openedAnswer (spectrumOf rows) values room) ≡ 11 → ⊥
 unfolding openedAnswer
 opened-never-11 rows values room = go (screened (spectrumOf rows) values room) refl
   where
-    go : (a : Answer) → screened (spectrumOf rows) values room ≡ a → numberOf (andThen a (undividedAnswer (spectrumOf rows) values)) ≡ 11 → ⊥
-    go Done e n = let z : _≡_ {A = ℕ} 0 11 = sym (ap numberOf (none-undivided rows values (right-of rows values room e))) ∙ n in omega arith
+    go : (a : Answer) → screened (spectrumOf rows) values room ≡ a → answerNumber (andThen a (undividedAnswer (spectrumOf rows) values)) ≡ 11 → ⊥
+    go Done e n = let z : _≡_ {A = ℕ} 0 11 = sym (ap answerNumber (none-undivided rows values (right-of rows values room e))) ∙ n in omega arith
     go (Refused number place) e n =
         screen-not-11 (minus 2048000) (pos 2048000) (openedRight (inputsOf (length (spectrumOf rows))) values) (spectrumOf rows) room (2 ^ keptInputs (spectrumOf rows) values)
-        (ap numberOf e ∙ n)
+        (ap answerNumber e ∙ n)
 
 pub opened-faulted : (rows : List ℤ) (values : List ℕ) (room : ℕ) → openedAnswer (spectrumOf rows) values room ≡ Done
     → openedSpectrumOf (spectrumOf rows) values ≡ spectrumOf (openedRows (keptInputs rows values) values rows)

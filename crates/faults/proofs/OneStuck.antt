@@ -19,9 +19,9 @@ use borrow.Author.Tests.{eq-eqb, ne-eqb}
 use Rattle.integer.specs.Sum.{signed}
 use Rattle.integer.specs.Tab.{tab, nth, Within}
 use Rattle.integer.proofs.Tabs.{tab-step, tab-ahead, length-part}
-use Rattle.walsh.specs.Answers.{inputsOf}
-use Rattle.walsh.proofs.Screens.{inputs-power}
-use Rattle.faults.specs.Faults.{Stuck, bitOf, stuckOf, stuckSpectrumOf, rising}
+use Rattle.screen.specs.Answers.{inputsOf}
+use Rattle.screen.proofs.Screens.{inputs-power}
+use Rattle.faults.specs.Faults.{Stuck, bitOf, stuckOf, stuckSpectrumOf, risingInputs}
 use Rattle.faults.specs.Steps.{stuckOnceAt, stuckOnce}
 use Rattle.faults.proofs.Arguments.{rising-rises, rising-suffix, length-stuck-of}
 use Rattle.faults.proofs.Digits.{add-below}
@@ -51,8 +51,8 @@ module _ (input value : ℕ) (a : List ℤ) where
     pub read-ahead : (l : List ℤ) → l ≡ stuck-to i → (j : ℕ) → i ≤ j → nth l j ≡ nth a j
     read-ahead l e j h = ap (λ (k : List ℤ). nth k j) e ∙ tab-ahead a (stuckOnceAt input value a) (pos 0) i j h
 
-    pub turn : (l : List ℤ) (z : ℤ) → l ≡ stuck-to i → z ≡ stuckOnceAt input value a i → i < length a → set l i z ≡ stuck-to (i + 1)
-    turn l z e g h = ap₂ (λ (k : List ℤ) (y : ℤ). set k i y) e g ∙ tab-step a (stuckOnceAt input value a) (pos 0) i h
+    pub stick-turn : (l : List ℤ) (z : ℤ) → l ≡ stuck-to i → z ≡ stuckOnceAt input value a i → i < length a → set l i z ≡ stuck-to (i + 1)
+    stick-turn l z e g h = ap₂ (λ (k : List ℤ) (y : ℤ). set k i y) e g ∙ tab-step a (stuckOnceAt input value a) (pos 0) i h
 
     pub once-joined : bitOf input i ≡ 0 → stuckOnceAt input value a i ≡ nth a i +ℤ signed value (nth a (i + 2 ^ (input - 1)))
     unfolding stuckOnceAt
@@ -77,7 +77,7 @@ module _ (a : List ℤ) (lines values : List ℕ) where
   from-within i few w =
       within-stuck (stuckOf (drop i lines) (drop i values)) 2048000 a (omega (arith, length-stuck-of (drop i lines) (drop i values), length-drop i lines)) w
 
-  module _ (even : length values ≡ length lines) (rise : rising 0 (inputsOf (length a)) lines ≡ true) (i : ℕ) (h : i < length lines) where
+  module _ (even : length values ≡ length lines) (rise : risingInputs 0 (inputsOf (length a)) lines ≡ true) (i : ℕ) (h : i < length lines) where
     abbrev here : Stuck
     here = record { line = getD lines i 0; value = getD values i 0 }
 

@@ -25,14 +25,14 @@ use Rattle.integer.proofs.Group.{mul-plus, mul-double, mul-one}
 use Rattle.integer.proofs.Sums.{signed-scale}
 use Rattle.integer.proofs.Tabs.{length-tab, getD-tab, tab-ext, take-tab}
 use Rattle.integer.proofs.Halves.{double}
-use Rattle.walsh.specs.Spectrum.{signedSum, spectrumOf}
-use Rattle.walsh.specs.Answers.{minus, inputsOf, outside}
+use Rattle.transform.specs.Spectrum.{signedSum, spectrumOf}
+use Rattle.screen.specs.Answers.{minus, inputsOf, outside}
 use Rattle.walsh.specs.Lists.{quotientOf, quotientAt, quotientsOf, unfit, unfitAt, firstUnfit, dividedAnswer}
-use Rattle.walsh.specs.declared.Answer.{Answer}
-use Rattle.walsh.specs.declared.Answer.the-variants.{Done, Refused}
-use Rattle.walsh.proofs.Screens.{small-outside}
-use Rattle.walsh.proofs.Spectra.{length-spectrum, nth-spectrum, spectrum-rule}
-use Rattle.faults.specs.Faults.{names, subsetSum, stuckAt, stuckSpectrumOf, bitOf, keptInputs, linesAfter, openedSumAt, openedAt, openedSpectrumOf, undividedAt, firstUndivided, undividedAnswer, openedRowNumber, openedRow, openedRows}
+use Rattle.screen.specs.declared.Answer.{Answer}
+use Rattle.screen.specs.declared.Answer.the-variants.{Done, Refused}
+use Rattle.screen.proofs.Screens.{small-outside}
+use Rattle.transform.proofs.Spectra.{length-spectrum, nth-spectrum, spectrum-rule}
+use Rattle.faults.specs.Faults.{names, subsetSum, stuckCoefficientAt, stuckSpectrumOf, bitOf, keptInputs, linesAfter, openedSumAt, openedAt, openedSpectrumOf, undividedAt, firstUndivided, undividedAnswer, openedRowNumber, openedRow, openedRows}
 use Rattle.faults.proofs.Sticking.{half-chosen, subset-size, within-all}
 
 -- each value is 0 or 1
@@ -109,8 +109,8 @@ names-none (v ∷ rest) n c l h g =
     let none : bitOf (suc c) l ≡ 0 = ap (λ (k : ℕ). k % 2) (div-eq-of-lt small) in
     ap (λ (w : Bool). cond w (names (linesAfter (suc c) rest) l) true) (eq-eqb (bitOf (suc c) l) 0 none) ∙ names-none rest n (suc c) l h (omega arith)
 
-stuck-after : (values : List ℕ) (n : ℕ) (f : ℕ → ℤ) (l : ℕ) → l < 2 ^ n → stuckAt (linesAfter n values) f l ≡ subsetSum (linesAfter n values) f l
-unfolding stuckAt
+stuck-after : (values : List ℕ) (n : ℕ) (f : ℕ → ℤ) (l : ℕ) → l < 2 ^ n → stuckCoefficientAt (linesAfter n values) f l ≡ subsetSum (linesAfter n values) f l
+unfolding stuckCoefficientAt
 stuck-after values n f l h = ap (λ (w : Bool). cond w (pos 0) (subsetSum (linesAfter n values) f l)) (names-none values n n l h (omega arith))
 
 -- What the call computes from any coefficients.
@@ -132,7 +132,7 @@ module _ (c : List ℤ) (values : List ℕ) (n : ℕ) (kept-is : keptInputs c va
   pub opened-sums : 2 ^ n ≤ length c → take (2 ^ n) (stuckSpectrumOf (linesAfter n values) c) ≡ openedSums c values n
   unfolding stuckSpectrumOf openedSumAt
   opened-sums h =
-      take-tab (2 ^ n) (length c) (stuckAt (linesAfter n values) (nth c)) h
+      take-tab (2 ^ n) (length c) (stuckCoefficientAt (linesAfter n values) (nth c)) h
       ∙ tab-ext (2 ^ n) _ _ (λ l b. stuck-after values n (nth c) l b ∙ ap (λ (k : ℕ). subsetSum (linesAfter k values) (nth c) l) (sym kept-is))
 
   module _ (small : Within 2048000 c) where

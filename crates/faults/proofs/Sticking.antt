@@ -23,10 +23,10 @@ use Rattle.integer.proofs.Group.{interchange, plus-minus, minus-minus}
 use Rattle.integer.proofs.Sums.{signed-add}
 use Rattle.integer.proofs.Tabs.{length-tab, getD-tab, tab-ext, tab-nth}
 use Rattle.integer.proofs.Halves.{double, which}
-use Rattle.walsh.specs.Spectrum.{signedSum, spectrumOf}
-use Rattle.walsh.proofs.Spectra.{length-spectrum, nth-spectrum, spectrum-rule}
-use Rattle.walsh.proofs.Halving.{upper, sum-equal, sum-low, sum-high}
-use Rattle.faults.specs.Faults.{Stuck, bitOf, names, subsetSum, stuckAt, stuckSpectrumOf, replaced, replacedAll, stuckRow, stuckRows}
+use Rattle.transform.specs.Spectrum.{signedSum, spectrumOf}
+use Rattle.transform.proofs.Spectra.{length-spectrum, nth-spectrum, spectrum-rule}
+use Rattle.transform.proofs.Halving.{upper, sum-equal, sum-low, sum-high}
+use Rattle.faults.specs.Faults.{Stuck, bitOf, names, subsetSum, stuckCoefficientAt, stuckSpectrumOf, replaced, replacedAll, stuckRow, stuckRows}
 use Rattle.faults.specs.Steps.{stuckOnceAt, stuckOnce}
 use Rattle.faults.proofs.Digits.{digit, put, put-low-half, put-high-half, put-above, digit-low-half, digit-high-half, digit-above, put-below, add-below, digit-beyond}
 
@@ -221,8 +221,8 @@ signed-zero zero = refl
 signed-zero (suc p) = refl
 
 stuck-at-step : (s : Stuck) (rest : List Stuck) (n : ℕ) (f : ℕ → ℤ) (y : ℕ) → 1 ≤ s .line → Rises (s .line) n rest
-    → stuckAt (s ∷ rest) f y ≡ onceSum (stuckAt rest f) (s .line - 1) (s .value) y
-unfolding stuckAt names subsetSum
+    → stuckCoefficientAt (s ∷ rest) f y ≡ onceSum (stuckCoefficientAt rest f) (s .line - 1) (s .value) y
+unfolding stuckCoefficientAt names subsetSum
 stuck-at-step s rest n f y first r = go (eqb (bitOf (s .line) y) 0) refl
   where
     c : ℕ
@@ -236,19 +236,19 @@ stuck-at-step s rest n f y first r = go (eqb (bitOf (s .line) y) 0) refl
 
     go : (w : Bool) → eqb (bitOf (s .line) y) 0 ≡ w
         → cond (cond w (names rest y) true) (pos 0) (subsetSum (s ∷ rest) f y)
-        ≡ cond w (stuckAt rest f y +ℤ signed (s .value) (stuckAt rest f (y + 2 ^ (s .line - 1)))) (pos 0)
+        ≡ cond w (stuckCoefficientAt rest f y +ℤ signed (s .value) (stuckCoefficientAt rest f (y + 2 ^ (s .line - 1)))) (pos 0)
     go true e =
         let same = names-add rest (s .line) n (s .line - 1) y r (omega arith) (eqb-true (bitOf (s .line) y) 0 e) in
         yes-case (names rest y) refl same
-        ∙ ap (λ (m : Bool). stuckAt rest f y +ℤ signed (s .value) (cond m (pos 0) (subsetSum rest f (y + 2 ^ (s .line - 1))))) (sym same)
+        ∙ ap (λ (m : Bool). stuckCoefficientAt rest f y +ℤ signed (s .value) (cond m (pos 0) (subsetSum rest f (y + 2 ^ (s .line - 1))))) (sym same)
     go false e = refl
 
 pub length-stuck : (lines : List Stuck) (a : List ℤ) → length (stuckSpectrumOf lines a) ≡ length a
 unfolding stuckSpectrumOf
-length-stuck lines a = length-tab (length a) (stuckAt lines (nth a))
+length-stuck lines a = length-tab (length a) (stuckCoefficientAt lines (nth a))
 
 pub stuck-none : (a : List ℤ) → stuckSpectrumOf [] a ≡ a
-unfolding stuckSpectrumOf stuckAt names subsetSum
+unfolding stuckSpectrumOf stuckCoefficientAt names subsetSum
 stuck-none a = tab-nth a
 
 pub stuck-step : (s : Stuck) (rest : List Stuck) (k : ℕ) (a : List ℤ) → length a ≡ 2 ^ k → Rises 0 k (s ∷ rest)
@@ -256,10 +256,10 @@ pub stuck-step : (s : Stuck) (rest : List Stuck) (k : ℕ) (a : List ℤ) → le
 unfolding stuckSpectrumOf
 stuck-step s rest k a e r =
     let first = r .0 in
-    ap (λ (n : ℕ). tab n (stuckAt (s ∷ rest) (nth a))) e
+    ap (λ (n : ℕ). tab n (stuckCoefficientAt (s ∷ rest) (nth a))) e
     ∙ tab-ext (2 ^ k) _ _ (λ y h. stuck-at-step s rest k (nth a) y first (r .2))
-    ∙ sym (stuck-rule s k first (r .1) (stuckSpectrumOf rest a) (stuckAt rest (nth a)) (length-stuck rest a ∙ e)
-    (λ x h. getD-tab (length a) (stuckAt rest (nth a)) (pos 0) x (omega arith)))
+    ∙ sym (stuck-rule s k first (r .1) (stuckSpectrumOf rest a) (stuckCoefficientAt rest (nth a)) (length-stuck rest a ∙ e)
+    (λ x h. getD-tab (length a) (stuckCoefficientAt rest (nth a)) (pos 0) x (omega arith)))
 
 lower : (rest : List Stuck) (last n : ℕ) → Rises last n rest → Rises 0 n rest
 lower [] last n r = tt
@@ -299,10 +299,10 @@ subset-size (s ∷ rest) f B y h =
     omega arith
 
 pub within-stuck : (lines : List Stuck) (B : ℕ) (a : List ℤ) → length lines ≤ 3 → Within B a → Within (8 * B) (stuckSpectrumOf lines a)
-unfolding stuckSpectrumOf stuckAt
+unfolding stuckSpectrumOf stuckCoefficientAt
 within-stuck lines B a few w x l =
-    let n = length-tab (length a) (stuckAt lines (nth a)) in
-    subst (λ (z : ℤ). natAbs z ≤ 8 * B) (sym (getD-tab (length a) (stuckAt lines (nth a)) (pos 0) x (omega arith))) (go (names lines x))
+    let n = length-tab (length a) (stuckCoefficientAt lines (nth a)) in
+    subst (λ (z : ℤ). natAbs z ≤ 8 * B) (sym (getD-tab (length a) (stuckCoefficientAt lines (nth a)) (pos 0) x (omega arith))) (go (names lines x))
   where
     go : (m : Bool) → natAbs (cond m (pos 0) (subsetSum lines (nth a) x)) ≤ 8 * B
     go true = zero-le

@@ -9,10 +9,10 @@ use lib.ListN.{length}
 use Rattle.integer.specs.First.{firstWhere}
 use Rattle.integer.specs.Sum.{signed}
 use Rattle.integer.specs.Tab.{tab, nth}
-use Rattle.walsh.specs.Answers.{andThen, minus, screenOf, inputsOf}
+use Rattle.screen.specs.Answers.{andThen, minus, screenOf, inputsOf}
 use Rattle.walsh.specs.Lists.{quotientOf}
-use Rattle.walsh.specs.declared.Answer.{Answer}
-use Rattle.walsh.specs.declared.Answer.the-variants.{Done, Refused}
+use Rattle.screen.specs.declared.Answer.{Answer}
+use Rattle.screen.specs.declared.Answer.the-variants.{Done, Refused}
 
 -- a line and the value at which it is stuck
 pub record Stuck : Type 0 where
@@ -41,16 +41,16 @@ subsetSum [] f label = f label
 subsetSum (s ∷ rest) f label = subsetSum rest f label +ℤ signed (s .value) (subsetSum rest f (label + 2 ^ (s .line - 1)))
 
 -- "At a label that names a stuck input the result is 0."
-unfoldable pub stuckAt : List Stuck → (ℕ → ℤ) → ℕ → ℤ
-stuckAt lines f label = cond (names lines label) (pos 0) (subsetSum lines f label)
+unfoldable pub stuckCoefficientAt : List Stuck → (ℕ → ℤ) → ℕ → ℤ
+stuckCoefficientAt lines f label = cond (names lines label) (pos 0) (subsetSum lines f label)
 
 unfoldable pub stuckSpectrumOf : List Stuck → List ℤ → List ℤ
-stuckSpectrumOf lines coefficients = tab (length coefficients) (stuckAt lines (nth coefficients))
+stuckSpectrumOf lines coefficients = tab (length coefficients) (stuckCoefficientAt lines (nth coefficients))
 
 -- rising from above `last`, none above n
-unfoldable pub rising : ℕ → ℕ → List ℕ → Bool
-rising last n [] = true
-rising last n (i ∷ rest) = cond (ltb last i) (cond (leb i n) (rising i n rest) false) false
+unfoldable pub risingInputs : ℕ → ℕ → List ℕ → Bool
+risingInputs last n [] = true
+risingInputs last n (i ∷ rest) = cond (ltb last i) (cond (leb i n) (risingInputs i n rest) false) false
 
 -- each 0 or 1
 unfoldable pub binary : List ℕ → Bool
@@ -63,7 +63,7 @@ fewOf k = cond (ltb 0 k) (leb k 3) false
 
 -- "one to three rising inputs in 1 to n with values 0 or 1"
 unfoldable pub stuckRight : ℕ → List ℕ → List ℕ → Bool
-stuckRight n inputs values = cond (fewOf (length inputs)) (cond (eqb (length values) (length inputs)) (cond (binary values) (rising 0 n inputs) false) false) false
+stuckRight n inputs values = cond (fewOf (length inputs)) (cond (eqb (length values) (length inputs)) (cond (binary values) (risingInputs 0 n inputs) false) false) false
 
 unfoldable pub stuckAnswer : List ℤ → List ℕ → List ℕ → ℕ → Answer
 stuckAnswer coefficients inputs values room =

@@ -1,6 +1,6 @@
 // The spectrum under a fault, from coefficients alone: stuck inputs, and opened lines. As in `walsh` the calls have no `requires` and refuse what
 // they cannot take.
-use walsh::Answer;
+use screen::Answer;
 ghost use mathlib.Core.Path.{_≡_};
 ghost use mathlib.Core.Bool.{true};
 ghost use Prim.Native.Nat.{_+_, _^_, _≤_, _<_};
@@ -8,8 +8,8 @@ ghost use lib.IntN.{_+ℤ_, natAbs};
 ghost use lib.ListN.{length};
 ghost use Rattle.integer.specs.Sum.{signed};
 ghost use Rattle.integer.specs.Tab.{Within};
-ghost use Rattle.walsh.specs.Answers.{leaves, written, inputsOf};
-ghost use Rattle.faults.specs.Faults.{stuckOf, stuckSpectrumOf, rising, binary, stuckRight, stuckAnswer, openedAnswer, openedSpectrumOf, undividedAnswer};
+ghost use Rattle.screen.specs.Answers.{leaves, written, inputsOf};
+ghost use Rattle.faults.specs.Faults.{stuckOf, stuckSpectrumOf, risingInputs, binary, stuckRight, stuckAnswer, openedAnswer, openedSpectrumOf, undividedAnswer};
 ghost use Rattle.faults.specs.Steps.{keptOf, stuckOnce};
 
 // x + y, or x - y where the value is not 0.
@@ -48,7 +48,7 @@ fn stick(a: &mut [i64], input: u32, value: u32)
 // All the lines stuck, the last first.
 fn stick_all(a: &mut [i64], lines: &[u32], values: &[u32])
     requires { ⌜ (length (now lines) ≤ 3) × (length (now values) ≡ length (now lines)) ⌝ }
-    requires { ⌜ rising 0 (inputsOf (length (now a))) (now lines) ≡ true ⌝ }
+    requires { ⌜ risingInputs 0 (inputsOf (length (now a))) (now lines) ≡ true ⌝ }
     requires { ⌜ Within 2048000 (now a) ⌝ }
     ensures { λ _. ⌜ now (a .exit) ≡ stuckSpectrumOf (stuckOf (now (lines .entry)) (now (values .entry))) (now (a .entry)) ⌝ }
 {
@@ -61,7 +61,7 @@ fn stick_all(a: &mut [i64], lines: &[u32], values: &[u32])
 
 // Whether the lines rise from 1 or more to n or less.
 fn rises(lines: &[u32], n: u32) -> bool
-    ensures { λ r. ⌜ r ≡ rising 0 n (now (lines .entry)) ⌝ }
+    ensures { λ r. ⌜ r ≡ risingInputs 0 n (now (lines .entry)) ⌝ }
 {
     let mut last: u32 = 0;
     let mut i: usize = 0;
@@ -116,7 +116,7 @@ fn stuck_right(n: u32, inputs: &[u32], values: &[u32]) -> bool
 
 fn stuck_by(coefficients: &[i32], lines: &[u32], values: &[u32], work: &mut [i64], out: &mut [i32])
     requires { ⌜ (length (now lines) ≤ 3) × (length (now values) ≡ length (now lines)) ⌝ }
-    requires { ⌜ rising 0 (inputsOf (length (now coefficients))) (now lines) ≡ true ⌝ }
+    requires { ⌜ risingInputs 0 (inputsOf (length (now coefficients))) (now lines) ≡ true ⌝ }
     requires { ⌜ Within 2048000 (now coefficients) ⌝ }
     requires { ⌜ (length (now work) ≡ length (now coefficients)) × (length (now coefficients) ≤ length (now out)) ⌝ }
     ensures { λ _. ⌜ now (out .exit) ≡ written (stuckSpectrumOf (stuckOf (now (lines .entry)) (now (values .entry))) (now (coefficients .entry))) (now (out .entry)) ⌝ }
@@ -132,8 +132,8 @@ pub fn stuck(coefficients: &[i32], inputs: &[u32], values: &[u32], out: &mut [i3
     ensures { λ r. ⌜ now (out .exit) ≡ leaves r (stuckSpectrumOf (stuckOf (now (inputs .entry)) (now (values .entry))) (now (coefficients .entry))) (now (out .entry)) ⌝ }
 {
     let n = coefficients.len();
-    let right = stuck_right(walsh::inputs_of(n), inputs, values);
-    match walsh::screen::screen(coefficients, -2048000, 2048000, right, out.len(), n) {
+    let right = stuck_right(screen::inputs_of(n), inputs, values);
+    match screen::screen(coefficients, -2048000, 2048000, right, out.len(), n) {
         Answer::Refused { number, place } => Answer::Refused { number, place },
         Answer::Done => {
             let mut work = [0i64; 2048];
@@ -192,9 +192,9 @@ pub fn opened(coefficients: &[i32], values: &[u32], out: &mut [i32]) -> Answer
     ensures { λ r. ⌜ now (out .exit) ≡ leaves r (openedSpectrumOf (now (coefficients .entry)) (now (values .entry))) (now (out .entry)) ⌝ }
 {
     let n = coefficients.len();
-    let kept = kept_inputs(walsh::inputs_of(n), values);
+    let kept = kept_inputs(screen::inputs_of(n), values);
     let due: usize = 1 << kept;
-    match walsh::screen::screen(coefficients, -2048000, 2048000, 0 < kept, out.len(), due) {
+    match screen::screen(coefficients, -2048000, 2048000, 0 < kept, out.len(), due) {
         Answer::Refused { number, place } => Answer::Refused { number, place },
         Answer::Done => {
             let mut work = [0i64; 2048];

@@ -9,7 +9,7 @@ use Prim.Native.Nat.{ℕ, _+_, _-_, _<_, _≤_}
 use native.Mathlib.Omega.{arith}
 use lib.ListN.{length, take, drop, length-drop}
 use borrow.Author.Tests.{lt-ltb, le-ltb, eq-eqb, ne-eqb}
-use Rattle.text.specs.Text.{indexOf, before, lineEnd}
+use Rattle.text.specs.Text.{textBytes, indexOf, before, lineEnd}
 use Rattle.text.proofs.Parts.{cut-before, cut-after, cut-has, cut-none}
 use Rattle.statements.specs.Lines.{headRefusal, headOf, gateOf, outputOf, faultOf}
 use Rattle.statements.specs.declared.Fault.{Fault}
@@ -17,10 +17,12 @@ use Rattle.statements.specs.declared.Gate.{Gate}
 use Rattle.statements.specs.declared.Head.{Head}
 use Rattle.statements.specs.declared.Output.{Output}
 use Rattle.netlist.specs.Circuits.{netlistOf}
-use Rattle.netlist.specs.Parsing.{linesOf, nthGateRefusal, nthOutputRefusal, nthFaultRefusal, gatesIn, outputsIn, faultsIn, accepted, rejected, endOf, bodyOf, parseOf, meaning}
-use Rattle.netlist.specs.Steps.{readOf}
+use Rattle.netlist.specs.Parsing.{gatesIn, outputsIn, faultsIn, accepted, rejected, endOf, bodyOf, parseOf, meaning, nthGateRefusal, nthOutputRefusal}
+use Rattle.sections.specs.Sections.{linesOf, readOf}
+use Rattle.sections.specs.FaultLines.{nthFaultRefusal}
 use Rattle.netlist.specs.declared.Parsed.{Parsed}
-use Rattle.netlist.proofs.LineLoops.{read-refused, read-done}
+use Rattle.sections.proofs.LineLoops.{read-refused, read-done}
+use Rattle.fields.specs.Fields.{unless}
 
 pub meant : (p : Parsed) {number place : ℕ} → p .number ≡ number → p .place ≡ place → (number ≡ 0 → ⊥) → meaning p ≡ rejected number place
 unfolding meaning
@@ -57,23 +59,23 @@ module _ (h : Head) (text : List ℕ) (from gn gp ga : ℕ) (gl : List Gate) (g 
         all-read k = let z : length (drop fa text) ≤ 0 = omega (arith, length-drop fa text) in through ∙ rw (le-ltb 0 (length (drop fa text)) z)
 
 module _ (text : List ℕ) where
-  pub too-long : 16384 < length text → parseOf text ≡ rejected 1 0
-  unfolding parseOf
-  too-long k = rw (lt-ltb 16384 (length text) k)
+  pub too-long : textBytes < length text → parseOf text ≡ rejected 1 0
+  unfolding parseOf unless
+  too-long k = rw (lt-ltb textBytes (length text) k)
 
-  module _ (few : length text ≤ 16384) {e : ℕ} (cut : e ≡ 0 + indexOf lineEnd (drop 0 text)) where
+  module _ (few : length text ≤ textBytes) {e : ℕ} (cut : e ≡ 0 + indexOf lineEnd (drop 0 text)) where
     pub no-head : length text ≤ e → parseOf text ≡ rejected 2 1
-    unfolding parseOf
-    no-head k = rw (le-ltb 16384 (length text) few, cut-none lineEnd text 0 e cut k)
+    unfolding parseOf unless
+    no-head k = rw (le-ltb textBytes (length text) few, cut-none lineEnd text 0 e cut k)
 
     module _ (inside : e < length text) {number : ℕ} (by : number ≡ headRefusal (take (e - 0) (drop 0 text))) where
       first : headRefusal (before lineEnd text) ≡ number
       first = ap headRefusal (sym (cut-before lineEnd text 0 e cut)) ∙ sym by
 
       pub head-stop : (number ≡ 0 → ⊥) → parseOf text ≡ rejected number 1
-      unfolding parseOf
-      head-stop n = rw (le-ltb 16384 (length text) few, cut-has lineEnd text 0 e cut inside, first, ne-eqb number 0 n)
+      unfolding parseOf unless
+      head-stop n = rw (le-ltb textBytes (length text) few, cut-has lineEnd text 0 e cut inside, first, ne-eqb number 0 n)
 
       pub head-passed : number ≡ 0 → parseOf text ≡ bodyOf (headOf (take (e - 0) (drop 0 text))) (drop (e + 1) text)
-      unfolding parseOf
-      head-passed z = rw (le-ltb 16384 (length text) few, cut-has lineEnd text 0 e cut inside, first, eq-eqb number 0 z, cut-before lineEnd text 0 e cut, cut-after lineEnd text 0 e cut)
+      unfolding parseOf unless
+      head-passed z = rw (le-ltb textBytes (length text) few, cut-has lineEnd text 0 e cut inside, first, eq-eqb number 0 z, cut-before lineEnd text 0 e cut, cut-after lineEnd text 0 e cut)

@@ -1,7 +1,6 @@
 pub mod Acceptance
 pub mod Assembling
-pub mod FaultsWritten
-pub mod LineLoops
-pub mod LinesWritten
+pub mod CircuitLines
+pub mod Counts
 pub mod Refusals
 pub mod Written

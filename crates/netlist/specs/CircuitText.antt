@@ -3,20 +3,19 @@
 --   "`circuit,N,G,M,Q,K`: N inputs (1 to 8), G gates (0 to 48), M outputs (1 to 4), Q faults (1 to 32), cap K (1 to 4)."
 --   "G lines `gate,KIND,A,B`" "M lines `output,LINE,WEIGHT`" "Q lines `fault,LINE,VALUE`, with one to three LINE,VALUE pairs"
 use Prim.Native.Nat.{ℕ}
-use mathlib.Core.Bool.{cond}
 use mathlib.Core.List.{List, [], _∷_, _++_}
-use lib.Dec.{eqb}
-use lib.IntN.{ℤ, pos}
-use lib.ListN.{length, getD}
+use lib.IntN.{pos}
+use lib.ListN.{length}
 use Rattle.text.specs.Text.{comma}
-use Rattle.text.specs.Writing.{gather, lineOf}
+use Rattle.writing.specs.Writing.{lineOf}
 use Rattle.statements.specs.Items.{noGate, noOutput, sound}
-use Rattle.statements.specs.Lines.{circuitWord, gateWord, outputWord, faultWord, kindWord}
-use Rattle.statements.specs.declared.Fault.{Fault}
+use Rattle.statements.specs.Lines.{circuitWord, gateWord, outputWord}
+use Rattle.kinds.specs.Kinds.{kindWord}
 use Rattle.statements.specs.declared.Gate.{Gate}
 use Rattle.statements.specs.declared.Output.{Output}
-use Rattle.statements.specs.declared.Stuck.{Stuck}
 use Rattle.netlist.specs.Circuits.{Netlist}
+use Rattle.sections.specs.Sections.{eachLine}
+use Rattle.sections.specs.FaultLines.{faultLine}
 
 unfoldable pub headLine : Netlist → List ℕ
 headLine n =
@@ -27,17 +26,6 @@ gateLine g = lineOf (gateWord ++ (comma ∷ kindWord (g .kind))) (pos (g .a) ∷
 
 unfoldable pub outputLine : Output → List ℕ
 outputLine o = lineOf outputWord (pos (o .line) ∷ o .weight ∷ [])
-
--- LINE and VALUE; nothing for a pair that is not there, which names line 0
-unfoldable pub pairOf : Stuck → List ℤ
-pairOf s = cond (eqb (s .line) 0) [] (pos (s .line) ∷ pos (cond (s .value) 1 0) ∷ [])
-
-unfoldable pub faultLine : Fault → List ℕ
-faultLine f = lineOf faultWord (pairOf (f .first) ++ (pairOf (f .second) ++ pairOf (f .third)))
-
--- a line for each item; `none` is what is read past the last
-unfoldable pub eachLine : {A : Type 0} → (A → List ℕ) → A → List A → List ℕ
-eachLine line none l = gather (λ i. line (getD l i none)) (length l)
 
 unfoldable pub textOf : Netlist → List ℕ
 textOf n = headLine n ++ (eachLine gateLine noGate (n .gates) ++ (eachLine outputLine noOutput (n .outputs) ++ eachLine faultLine sound (n .faults)))

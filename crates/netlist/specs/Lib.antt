@@ -1,5 +1,4 @@
 pub mod CircuitText
 pub mod Circuits
 pub mod Parsing
-pub mod Steps
 pub mod WellFormed

@@ -1,36 +1,20 @@
 -- The whole circuit text: the circuit that it states, or its refusal with number and place (document 01, "What is returned"):
 --   "Text: 1 first, then line by line; within a line 2, 3, then 4, 5, 6." "bytes after the last due line; the place is the next line"
-use Prim.Native.Nat.{ℕ, zero, suc, _+_}
+use Prim.Native.Nat.{ℕ, _+_}
 use mathlib.Core.Bool.{cond}
-use mathlib.Core.List.{List, [], _∷_, _++_}
+use mathlib.Core.List.{List, []}
 use lib.Dec.{eqb, ltb}
 use lib.ListN.{length}
-use Rattle.text.specs.Text.{before, after, has, lineEnd}
-use Rattle.statements.specs.Lines.{unless, headRefusal, headOf, gateRefusal, gateOf, outputRefusal, outputOf, faultRefusal, faultOf}
+use Rattle.text.specs.Text.{textBytes, before, after, lineEnd}
+use Rattle.statements.specs.Lines.{headRefusal, headOf, gateOf, outputOf, faultOf, gateRefusal, outputRefusal}
 use Rattle.statements.specs.declared.Fault.{Fault}
 use Rattle.statements.specs.declared.Gate.{Gate}
 use Rattle.statements.specs.declared.Head.{Head}
 use Rattle.statements.specs.declared.Output.{Output}
 use Rattle.netlist.specs.Circuits.{Netlist, netlistOf}
 use Rattle.netlist.specs.declared.Parsed.{Parsed}
-
--- the next line is refused by 2 where it has no end, else by its own tests
-abbrev pub lineRefusal : (List ℕ → ℕ) → List ℕ → ℕ
-lineRefusal refusal rest = unless (has lineEnd rest) 2 (refusal (before lineEnd rest))
-
--- what lines say, with the text that follows them; or a refusal's number and place
-pub data Read (A : Type 0) : Type 0 where
-  items : List A → List ℕ → Read A
-  refused : ℕ → ℕ → Read A
-
--- `left` lines at the front of `rest`, after those that were read. The first of them is line `place` of the text, and `refusal` gives the
--- number for a line from how many were read before it.
-unfoldable pub linesOf : {A : Type 0} → (ℕ → List ℕ → ℕ) → (List ℕ → A) → ℕ → ℕ → List ℕ → List A → Read A
-linesOf refusal item zero place rest read = items read rest
-linesOf refusal item (suc left) place rest read =
-    cond (eqb (lineRefusal (refusal (length read)) rest) 0)
-    (linesOf refusal item left (suc place) (after lineEnd rest) (read ++ (item (before lineEnd rest) ∷ [])))
-    (refused (lineRefusal (refusal (length read)) rest) place)
+use Rattle.sections.specs.Sections.{Read, items, lineRefused, lineRefusal, linesOf}
+use Rattle.sections.specs.FaultLines.{nthFaultRefusal}
 
 -- "Inputs are lines 1 to N; the j-th gate (from 1) drives line N+j."
 abbrev pub nthGateRefusal : ℕ → ℕ → List ℕ → ℕ
@@ -38,9 +22,6 @@ nthGateRefusal inputs j l = gateRefusal (inputs + j + 1) l
 
 abbrev pub nthOutputRefusal : ℕ → ℕ → List ℕ → ℕ
 nthOutputRefusal top j l = outputRefusal top l
-
-abbrev pub nthFaultRefusal : ℕ → ℕ → List ℕ → ℕ
-nthFaultRefusal top j l = faultRefusal top l
 
 -- the gates begin at the text's second line
 unfoldable pub gatesIn : Head → List ℕ → Read Gate
@@ -58,7 +39,7 @@ pub data Parse : Type 0 where
 
 abbrev pub onRead : {A : Type 0} → Read A → (List A → List ℕ → Parse) → Parse
 onRead (items l rest) next = next l rest
-onRead (refused number place) next = rejected number place
+onRead (lineRefused number place) next = rejected number place
 
 unfoldable pub endOf : Head → List Gate → List Output → List Fault → List ℕ → Parse
 endOf h gates outputs faults rest =
@@ -72,7 +53,7 @@ bodyOf h rest =
 
 unfoldable pub parseOf : List ℕ → Parse
 parseOf text =
-    cond (ltb 16384 (length text)) (rejected 1 0)
+    cond (ltb textBytes (length text)) (rejected 1 0)
     (cond (eqb (lineRefusal headRefusal text) 0)
     (bodyOf (headOf (before lineEnd text)) (after lineEnd text))
     (rejected (lineRefusal headRefusal text) 1))

@@ -1,18 +1,16 @@
 -- What accepted circuits satisfy, and no others (proofs/Written `accepted-exactly`): document 01's ranges, "Each of A and B is below the gate's own
 -- line", and outputs and faults that name lines of the circuit, a fault's lines rising.
 use Prim.Native.Nat.{ℕ, _+_, _<_, _≤_}
-use mathlib.Core.Logic.{_⊎_}
 use mathlib.Core.Path.{_≡_}
 use lib.IntN.{pos, natAbs}
 use lib.ListN.{length, getD}
-use Rattle.statements.specs.Items.{noGate, noOutput, free, sound}
-use Rattle.statements.specs.declared.Fault.{Fault}
+use Rattle.statements.specs.Items.{noGate, noOutput, sound}
 use Rattle.statements.specs.declared.Gate.{Gate}
-use Rattle.statements.specs.declared.Kind.{Kind}
-use Rattle.statements.specs.declared.Kind.the-variants.{And, Or, Nand, Nor, Xor, Xnor, Not}
+use Rattle.kinds.specs.declared.Kind.{Kind}
+use Rattle.kinds.specs.declared.Kind.the-variants.{And, Or, Nand, Nor, Xor, Xnor, Not}
 use Rattle.statements.specs.declared.Output.{Output}
-use Rattle.statements.specs.declared.Stuck.{Stuck}
 use Rattle.netlist.specs.Circuits.{Netlist}
+use Rattle.sections.specs.FaultLines.{FaultRight}
 
 -- "B is 1 to 56, and 0 for `not`"
 abbrev pub SecondRight : Kind → ℕ → Type 0
@@ -36,17 +34,6 @@ pub record OutputRight (top : ℕ) (o : Output) : Type 0 where
   pub weight-low : 1 ≤ natAbs (o .weight)
   pub weight-high : natAbs (o .weight) ≤ 15
   pub weight-whole : o .weight ≡ pos (natAbs (o .weight))
-
--- a pair that is not there is `free`; one that is there has a line above `last`
-abbrev pub Above : ℕ → ℕ → Stuck → Type 0
-Above last top s = (s ≡ free) ⊎ ((last < s .line) × (s .line ≤ top))
-
-pub record FaultRight (top : ℕ) (f : Fault) : Type 0 where
-  pub first-low : 1 ≤ f .first .line
-  pub first-high : f .first .line ≤ top
-  pub second : Above (f .first .line) top (f .second)
-  pub third : Above (f .second .line) top (f .third)
-  pub no-gap : f .second .line ≡ 0 → f .third .line ≡ 0
 
 abbrev pub topOf : Netlist → ℕ
 topOf n = n .inputs + length (n .gates)

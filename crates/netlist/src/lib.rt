@@ -6,6 +6,10 @@ use statements::Fault;
 use statements::Gate;
 use statements::Head;
 use statements::Output;
+use statements::Pair;
+ghost use mathlib.Core.Path.{_≡_};
+ghost use Prim.Native.Nat.{_≤_};
+ghost use Rattle.netlist.specs.Circuits.{netlistOf, Sized, faultAt};
 
 // Each array is in use as far as the head says.
 pub struct Circuit {
@@ -20,4 +24,23 @@ pub struct Parsed {
     pub number: u32,
     pub place: usize,
     pub circuit: Circuit,
+}
+
+// Fault `number` of the circuit, from 1; the fault that names no line for 0.
+pub fn fault_at(c: Circuit, number: usize) -> Fault
+    requires { ⌜ Sized c × (number ≤ c .head .faults) ⌝ }
+    ensures { λ r. ⌜ r ≡ faultAt (netlistOf c) number ⌝ }
+{
+    if number == 0 {
+        let free = Pair {
+            line: 0,
+            value: false,
+        };
+        return Fault {
+            first: free,
+            second: free,
+            third: free,
+        };
+    }
+    c.faults[number - 1]
 }

@@ -1,20 +1,20 @@
 // The circuit text, line by line.
 use crate::Circuit;
 use crate::Parsed;
+use kinds::Kind;
 use statements::Fault;
 use statements::Gate;
 use statements::Head;
-use statements::Kind;
 use statements::Output;
-use statements::Stuck;
+use statements::Pair;
 ghost use mathlib.Core.Path.{_≡_};
-ghost use mathlib.Core.List.{[]};
 ghost use Prim.Native.Nat.{_≤_, _+_};
+ghost use mathlib.Core.List.{[]};
 ghost use lib.ListN.{drop};
-ghost use Rattle.statements.specs.Lines.{gateOf, outputOf, faultOf};
+ghost use Rattle.statements.specs.Lines.{gateOf, outputOf};
+ghost use Rattle.sections.specs.Sections.{linesOf, readOf};
 ghost use Rattle.netlist.specs.Circuits.{Sized};
-ghost use Rattle.netlist.specs.Parsing.{linesOf, nthGateRefusal, nthOutputRefusal, nthFaultRefusal, bodyOf, parseOf, meaning};
-ghost use Rattle.netlist.specs.Steps.{readOf};
+ghost use Rattle.netlist.specs.Parsing.{nthGateRefusal, nthOutputRefusal, bodyOf, parseOf, meaning};
 
 // What the gate lines say; number 0 where none is refused, and then `at` is where the next line begins.
 struct GateLines {
@@ -31,13 +31,6 @@ struct OutputLines {
     outputs: [Output; 4],
 }
 
-struct FaultLines {
-    number: u32,
-    place: usize,
-    at: usize,
-    faults: [Fault; 32],
-}
-
 fn gates(text: &[u8], from: usize, inputs: usize, count: usize) -> GateLines
     requires { ⌜ (inputs ≤ 8) × (count ≤ 48) ⌝ }
     ensures { λ r. ⌜ readOf (now (text .entry)) count (r .number) (r .place) (r .at) (r .gates) ≡ linesOf (nthGateRefusal inputs) gateOf count 2 (drop from (now (text .entry))) [] ⌝ }
@@ -51,7 +44,7 @@ fn gates(text: &[u8], from: usize, inputs: usize, count: usize) -> GateLines
     let mut at = from;
     let mut j: usize = 0;
     while j < count {
-        let end = text::find(text, at, 10);
+        let end = text::find(text, at, b'\n');
         if text.len() <= end {
             return GateLines {
                 number: 2,
@@ -92,7 +85,7 @@ fn outputs(text: &[u8], from: usize, top: usize, count: usize, place: usize) -> 
     let mut at = from;
     let mut j: usize = 0;
     while j < count {
-        let end = text::find(text, at, 10);
+        let end = text::find(text, at, b'\n');
         if text.len() <= end {
             return OutputLines {
                 number: 2,
@@ -124,60 +117,11 @@ fn outputs(text: &[u8], from: usize, top: usize, count: usize, place: usize) -> 
     }
 }
 
-fn faults(text: &[u8], from: usize, top: usize, count: usize, place: usize) -> FaultLines
-    requires { ⌜ (count ≤ 32) × (place ≤ 54) ⌝ }
-    ensures { λ r. ⌜ readOf (now (text .entry)) count (r .number) (r .place) (r .at) (r .faults) ≡ linesOf (nthFaultRefusal top) faultOf count place (drop from (now (text .entry))) [] ⌝ }
-{
-    let free = Stuck {
-        line: 0,
-        value: false,
-    };
-    let none = Fault {
-        first: free,
-        second: free,
-        third: free,
-    };
-    let mut faults = [none; 32];
-    let mut at = from;
-    let mut j: usize = 0;
-    while j < count {
-        let end = text::find(text, at, 10);
-        if text.len() <= end {
-            return FaultLines {
-                number: 2,
-                place: place + j,
-                at,
-                faults,
-            };
-        }
-        let said = statements::fault_line(top, &text[at..end]);
-        let number = said.number;
-        if number != 0 {
-            return FaultLines {
-                number,
-                place: place + j,
-                at,
-                faults,
-            };
-        }
-        let fault = said.fault;
-        faults[j] = fault;
-        at = end + 1;
-        j += 1;
-    }
-    FaultLines {
-        number: 0,
-        place: 0,
-        at,
-        faults,
-    }
-}
-
 // The answer to a text that is refused; its circuit is of no account.
 fn refused(number: u32, place: usize) -> Parsed
     ensures { λ r. ⌜ (r .number ≡ number) × (r .place ≡ place) × Sized (r .circuit) ⌝ }
 {
-    let free = Stuck {
+    let free = Pair {
         line: 0,
         value: false,
     };
@@ -224,7 +168,7 @@ fn body(text: &[u8], from: usize, head: Head) -> Parsed
     if o.number != 0 {
         return refused(o.number, o.place);
     }
-    let f = faults(text, o.at, top, head.faults, head.gates + head.outputs + 2);
+    let f = sections::faults(text, o.at, top, head.faults, head.gates + head.outputs + 2);
     if f.number != 0 {
         return refused(f.number, f.place);
     }
@@ -250,10 +194,10 @@ fn body(text: &[u8], from: usize, head: Head) -> Parsed
 pub fn parse(text: &[u8]) -> Parsed
     ensures { λ r. ⌜ (meaning r ≡ parseOf (now (text .entry))) × Sized (r .circuit) ⌝ }
 {
-    if 16384 < text.len() {
+    if text::TEXT_BYTES < text.len() {
         return refused(1, 0);
     }
-    let end = text::find(text, 0, 10);
+    let end = text::find(text, 0, b'\n');
     if text.len() <= end {
         return refused(2, 1);
     }

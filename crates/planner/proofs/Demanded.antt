@@ -26,8 +26,8 @@ use Rattle.simulation.specs.Rows.{rowValue, rowsOf}
 use Rattle.simulation.proofs.RowBounds.{length-rows}
 use Rattle.statements.specs.Items.{sound}
 use Rattle.statements.specs.declared.Fault.{Fault}
-use Rattle.walsh.specs.Spectrum.{coefficientOf}
-use Rattle.planner.specs.PlanCall.{Verdict, refused, planned, soundRows, faultedRows, searched, silentFirst, verdictOf, workDue, planIn, planVerdict, planNumbers, planAnswer}
+use Rattle.transform.specs.Spectrum.{coefficientOf}
+use Rattle.planner.specs.PlanCall.{Verdict, refused, planned, soundRows, faultedRows, searched, silentFirst, verdictOf, workingNumbers, planIn, planVerdict, planNumbers, planAnswer}
 use Rattle.planner.specs.Demand.{Named, Shows, Possible, Silent, SomeSilent, Right}
 use Rattle.planner.proofs.FaultRows.{fault-rows, fault-count}
 use Rattle.planner.proofs.PlanLaws.{kept-four}
@@ -141,12 +141,12 @@ module _ (n : Netlist) (w : WellFormed n) where
           refused-zero = λ e. (refl, refl);
         }
 
-  module _ (heard : length (n .faults) ≤ silentFirst n) where
+  module _ (past-all : length (n .faults) ≤ silentFirst n) where
     none-silent : SomeSilent n → ⊥
     unfolding silentFirst
     none-silent q =
         let a = at-number (q .0) (q .1) in
-        let r = silent-none S F (omega (arith, fault-count n, heard)) (a .0) (a .1) in
+        let r = silent-none S F (omega (arith, fault-count n, past-all)) (a .0) (a .1) in
         r .2 (rows-same (a .0) (a .1) (subst (Silent n) (a .2) (q .2)) (r .0) (r .1))
 
     module _ (xs : List ℕ) (e : signatureOf S F (n .cap) ≡ some xs) where
@@ -212,8 +212,8 @@ module _ (n : Netlist) (w : WellFormed n) where
       go false t (some xs) e = right-planned (ltb-false (silentFirst n) (length (n .faults)) t) xs e
       go false t none e = right-unplanned (ltb-false (silentFirst n) (length (n .faults)) t) e
 
-pub demand-three : (text : List ℕ) (n : Netlist) (work : ℕ) → parseOf text ≡ accepted n → workDue ≤ work → Right n (planAnswer text work)
+pub demand-three : (text : List ℕ) (n : Netlist) (work : ℕ) → parseOf text ≡ accepted n → workingNumbers ≤ work → Right n (planAnswer text work)
 unfolding planAnswer planVerdict
 demand-three text n work e h =
-    subst (λ (v : Verdict). Right n (planNumbers v)) (sym (ap (λ p. planIn p work) e ∙ ap (λ (t : Bool). cond t (refused 8 0) (verdictOf n)) (le-ltb work workDue h)))
+    subst (λ (v : Verdict). Right n (planNumbers v)) (sym (ap (λ p. planIn p work) e ∙ ap (λ (t : Bool). cond t (refused 8 0) (verdictOf n)) (le-ltb work workingNumbers h)))
     (right-verdict n (well-formed text n e))

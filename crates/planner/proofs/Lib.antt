@@ -1,4 +1,3 @@
-pub mod CircuitLaws
 pub mod Demanded
 pub mod FaultRows
 pub mod PlanLaws

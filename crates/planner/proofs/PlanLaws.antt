@@ -1,14 +1,14 @@
 -- The plan call:
---   Heard              no fault below f is silent, and the masks are those of the faults below f
---   Turn, may-mark     fault f with its rows, before it is marked, and what marking it requires
---   heard-none, heard-more, heard-stop, heard-all    a loop that marks: at 0, one fault more, at a silent fault, at the end
---   all-loud           where the first silent fault is not below the number of faults, it is that number
---   Ready, may-find    no fault is silent and all are marked, and what the search requires
---   plan-silent, plan-none, plan-found     the verdict's numbers: 13, 14, the labels
---   kept-four          the labels of a plan, at the front of four
+--   MarkedBelow            no fault below f is silent, and the masks are those of the faults below f
+--   Turn, may-mark         fault f with its rows, before it is marked, and what marking it requires
+--   marked-none, marked-one-more, marked-silent, marked-all    a loop that marks: at 0, one fault more, at a silent fault, at the end
+--   first-silent-count     where the first silent fault is not below the number of faults, it is that number
+--   AllMarked, may-find    no fault is silent and all are marked, and what the search requires
+--   verdict-silent, verdict-none, verdict-found    the verdict's numbers: 13, 14, the labels
+--   kept-four              the labels of a plan, at the front of four
 --   verdict-text, verdict-room, verdict-served    the call's verdict, by the parser's answer
---   front-labels       the front of the labels that the order gives
---   kept, front-used   the working numbers, untouched or with their front used
+--   front-labels           the front of the labels that the order gives
+--   kept, front-used       the working numbers, untouched or with their front used
 use mathlib.Core.Path.{_≡_, refl, sym, ap, ap₂, _∙_, subst}
 use mathlib.Core.Bool.{Bool, true, false, cond}
 use mathlib.Core.List.{List, [], _∷_, _++_}
@@ -42,9 +42,9 @@ use Rattle.netlist.specs.declared.Parsed.{Parsed}
 use Rattle.netlist.proofs.Assembling.{meant}
 use Rattle.simulation.specs.Rows.{rowsOf}
 use Rattle.simulation.proofs.RowBounds.{length-rows, rows-in-range}
-use Rattle.planner.specs.PlanCall.{Verdict, refused, soundRows, faultedRows, searched, silentFirst, verdictOf, workDue, planVerdict, planNumbers, mayUse, WorkKept}
+use Rattle.planner.specs.PlanCall.{Verdict, refused, soundRows, faultedRows, searched, silentFirst, verdictOf, workingNumbers, planVerdict, planNumbers, mayUse, WorkKept}
 use Rattle.planner.specs.declared.Planned.{Planned}
-use Rattle.simulation.proofs.Counts.{due, due-is, due-few}
+use Rattle.netlist.proofs.Counts.{due, due-is, due-few}
 use Rattle.netlist.proofs.Acceptance.{accepted-as}
 use Rattle.statements.specs.Items.{sound}
 use Rattle.planner.proofs.FaultRows.{fault-rows-next, fault-count}
@@ -54,27 +54,27 @@ use Rattle.planner.proofs.FaultRows.{fault-rows-next, fault-count}
 abbrev labelsFor : Netlist → List ℕ
 labelsFor n = labelsBelow (2 ^ n .inputs)
 
-pub record Heard (n : Netlist) (f : ℕ) (masks : List ℕ) : Type 0 where
-  pub loud : (x : ℕ) → x < f → silentAt (soundRows n) (faultedRows n) x ≡ false
+pub record MarkedBelow (n : Netlist) (f : ℕ) (masks : List ℕ) : Type 0 where
+  pub none-silent : (x : ℕ) → x < f → silentAt (soundRows n) (faultedRows n) x ≡ false
   pub marks : masks ≡ masksOf (soundRows n) (faultedRows n) (labelsFor n) f
 
-pub heard-none : (n : Netlist) (masks : List ℕ) (size : ℕ) → size ≡ 2 ^ n .inputs → masks ≡ replicate size 0 → Heard n 0 masks
-heard-none n masks size e k = record {
-  loud = λ x h. absurd (omega arith);
+pub marked-none : (n : Netlist) (masks : List ℕ) (size : ℕ) → size ≡ 2 ^ n .inputs → masks ≡ replicate size 0 → MarkedBelow n 0 masks
+marked-none n masks size e k = record {
+  none-silent = λ x h. absurd (omega arith);
   marks = k ∙ ap (λ (s : ℕ). replicate s 0) (e ∙ sym (length-rows n sound)) ∙ sym (no-masks (soundRows n) (faultedRows n) (labelsFor n));
 }
 
-pub heard-all : (n : Netlist) (f : ℕ) (masks : List ℕ) → f ≡ length (n .faults) → Heard n f masks → f ≡ silentFirst n
+pub marked-all : (n : Netlist) (f : ℕ) (masks : List ℕ) → f ≡ length (n .faults) → MarkedBelow n f masks → f ≡ silentFirst n
 unfolding silentFirst firstSilent
-heard-all n f masks e so-far =
+marked-all n f masks e so-far =
     let all : f ≡ length (faultedRows n) = e ∙ sym (fault-count n) in
-    all ∙ sym (first-none (silentAt (soundRows n) (faultedRows n)) (length (faultedRows n)) (λ x h. so-far .loud x (subst (λ (k : ℕ). x < k) (sym all) h)))
+    all ∙ sym (first-none (silentAt (soundRows n) (faultedRows n)) (length (faultedRows n)) (λ x h. so-far .none-silent x (subst (λ (k : ℕ). x < k) (sym all) h)))
 
 -- fault f, with its rows, before it is marked
 pub record Turn (n : Netlist) (f : ℕ) (masks : List ℕ) (sound-rows faulted : List ℤ) (labels : List ℕ) : Type 0 where
   pub right : WellFormed n
   pub low : f < length (n .faults)
-  pub so-far : Heard n f masks
+  pub so-far : MarkedBelow n f masks
   pub sound-are : sound-rows ≡ soundRows n
   pub labels-are : labels ≡ labelsFor n
   pub faulted-are : faulted ≡ rowsOf n (faultAt n (f + 1))
@@ -106,14 +106,14 @@ module _ {n : Netlist} {f : ℕ} {masks : List ℕ} {sound-rows faulted : List �
   unfolding silentAt
   silent-here = ap₂ silent (sym (t .sound-are)) (sym here)
 
-  pub heard-stop : silent sound-rows faulted ≡ true → f ≡ silentFirst n
+  pub marked-silent : silent sound-rows faulted ≡ true → f ≡ silentFirst n
   unfolding silentFirst firstSilent
-  heard-stop e =
-      sym (first-hit (silentAt (soundRows n) (faultedRows n)) (length (faultedRows n)) f (subst (λ (k : ℕ). f < k) (sym (fault-count n)) (t .low)) (t .so-far .loud) (silent-here ∙ e))
+  marked-silent e =
+      sym (first-hit (silentAt (soundRows n) (faultedRows n)) (length (faultedRows n)) f (subst (λ (k : ℕ). f < k) (sym (fault-count n)) (t .low)) (t .so-far .none-silent) (silent-here ∙ e))
 
-  pub heard-more : (next : List ℕ) → silent sound-rows faulted ≡ false → next ≡ marked sound-rows faulted labels f masks → Heard n (f + 1) next
-  heard-more next e k = record {
-    loud = below-more (λ x. silentAt (soundRows n) (faultedRows n) x ≡ false) f (t .so-far .loud) (silent-here ∙ e);
+  pub marked-one-more : (next : List ℕ) → silent sound-rows faulted ≡ false → next ≡ marked sound-rows faulted labels f masks → MarkedBelow n (f + 1) next
+  marked-one-more next e k = record {
+    none-silent = below-more (λ x. silentAt (soundRows n) (faultedRows n) x ≡ false) f (t .so-far .none-silent) (silent-here ∙ e);
     marks =
         k ∙ ap₂ (λ (a b : List ℤ). marked a b labels f masks) (t .sound-are) here ∙ ap (λ (l : List ℕ). marked (soundRows n) (faultRows (faultedRows n) f) l f masks) (t .labels-are)
         ∙ marked-more (soundRows n) (faultedRows n) (labelsFor n) f masks (t .so-far .marks) ∙ ap (masksOf (soundRows n) (faultedRows n) (labelsFor n)) (sym (add-one f));
@@ -121,37 +121,37 @@ module _ {n : Netlist} {f : ℕ} {masks : List ℕ} {sound-rows faulted : List �
 
 -- The verdict.
 
-pub plan-silent : (n : Netlist) (first : ℕ) → first ≡ silentFirst n → first < length (n .faults) → refused 13 (first + 1) ≡ verdictOf n
+pub verdict-silent : (n : Netlist) (first : ℕ) → first ≡ silentFirst n → first < length (n .faults) → refused 13 (first + 1) ≡ verdictOf n
 unfolding verdictOf
-plan-silent n first e h = rw (← e, lt-ltb first (length (n .faults)) h, add-one)
+verdict-silent n first e h = rw (← e, lt-ltb first (length (n .faults)) h, add-one)
 
 numbers-none : (o : Option (List ℕ)) (s : LabelSet) → s ≡ setOf o → ((xs : List ℕ) → o ≡ some xs → 1 ≤ length xs) → s .size ≡ 0 → planNumbers (searched o) ≡ planNumbers (refused 14 0)
 numbers-none none s e least h = refl
 numbers-none (some xs) s e least h = absurd (omega (arith, least xs refl, ap (λ (t : LabelSet). t .size) e))
 
-abbrev pub numbersOf : LabelSet → Planned
-numbersOf s = record { number = 0; place = 0; size = s .size; labels = s .labels }
+abbrev pub plannedOf : LabelSet → Planned
+plannedOf s = record { number = 0; place = 0; size = s .size; labels = s .labels }
 
-numbers-some : (o : Option (List ℕ)) (s : LabelSet) → s ≡ setOf o → (s .size ≡ 0 → ⊥) → planNumbers (searched o) ≡ numbersOf s
+numbers-some : (o : Option (List ℕ)) (s : LabelSet) → s ≡ setOf o → (s .size ≡ 0 → ⊥) → planNumbers (searched o) ≡ plannedOf s
 numbers-some none s e h = absurd (h (ap (λ (t : LabelSet). t .size) e))
-numbers-some (some xs) s e h = ap numbersOf (sym e)
+numbers-some (some xs) s e h = ap plannedOf (sym e)
 
 abbrev signature : Netlist → Option (List ℕ)
 signature n = signatureOf (soundRows n) (faultedRows n) (n .cap)
 
-pub all-loud : (n : Netlist) (q first : ℕ) → length (n .faults) ≡ q → first ≡ silentFirst n → q ≤ first → first ≡ q
+pub first-silent-count : (n : Netlist) (q first : ℕ) → length (n .faults) ≡ q → first ≡ silentFirst n → q ≤ first → first ≡ q
 unfolding silentFirst firstSilent
-all-loud n q first e k h = omega (arith, first-le (silentAt (soundRows n) (faultedRows n)) (length (faultedRows n)), fault-count n)
+first-silent-count n q first e k h = omega (arith, first-le (silentAt (soundRows n) (faultedRows n)) (length (faultedRows n)), fault-count n)
 
 -- no fault is silent, and all are marked
-pub record Ready (n : Netlist) (q : ℕ) (labels masks : List ℕ) : Type 0 where
+pub record AllMarked (n : Netlist) (q : ℕ) (labels masks : List ℕ) : Type 0 where
   pub right : WellFormed n
   pub count : length (n .faults) ≡ q
-  pub loud : q ≤ silentFirst n
+  pub none-silent : q ≤ silentFirst n
   pub labels-are : labels ≡ labelsFor n
   pub masks-are : masks ≡ masksOf (soundRows n) (faultedRows n) (labelsFor n) q
 
-module _ {n : Netlist} {q : ℕ} {labels masks : List ℕ} (r : Ready n q labels masks) where
+module _ {n : Netlist} {q : ℕ} {labels masks : List ℕ} (r : AllMarked n q labels masks) where
   -- what the search requires
   pub may-find : (length labels ≡ length masks) × (length masks ≤ 256) × (1 ≤ q) × (q ≤ 32) × (n .cap ≤ 4)
   may-find =
@@ -174,13 +174,13 @@ module _ {n : Netlist} {q : ℕ} {labels masks : List ℕ} (r : Ready n q labels
 
     as-searched : verdictOf n ≡ searched (signature n)
     unfolding verdictOf
-    as-searched = rw (le-ltb (silentFirst n) (length (n .faults)) (omega (arith, r .count, r .loud)))
+    as-searched = rw (le-ltb (silentFirst n) (length (n .faults)) (omega (arith, r .count, r .none-silent)))
 
-    pub plan-none : s .size ≡ 0 → planNumbers (refused 14 0) ≡ planNumbers (verdictOf n)
-    plan-none h = sym (ap planNumbers as-searched ∙ numbers-none (signature n) s as-signature (λ xs e. signature-found (soundRows n) (faultedRows n) (n .cap) xs e .1) h)
+    pub verdict-none : s .size ≡ 0 → planNumbers (refused 14 0) ≡ planNumbers (verdictOf n)
+    verdict-none h = sym (ap planNumbers as-searched ∙ numbers-none (signature n) s as-signature (λ xs e. signature-found (soundRows n) (faultedRows n) (n .cap) xs e .1) h)
 
-    pub plan-found : (s .size ≡ 0 → ⊥) → numbersOf s ≡ planNumbers (verdictOf n)
-    plan-found h = sym (ap planNumbers as-searched ∙ numbers-some (signature n) s as-signature h)
+    pub verdict-found : (s .size ≡ 0 → ⊥) → plannedOf s ≡ planNumbers (verdictOf n)
+    verdict-found h = sym (ap planNumbers as-searched ∙ numbers-some (signature n) s as-signature h)
 
 -- a list of at most four, as it is returned
 pub kept-four : (xs : List ℕ) → length xs ≤ 4 → take (length xs) (fourOf xs) ≡ xs
@@ -198,13 +198,13 @@ module _ (text : List ℕ) (work : ℕ) (p : Parsed) (means : meaning p ≡ pars
   verdict-text n = rw (sym means, meant p refl refl n)
 
   module _ (number : p .number ≡ 0) where
-    pub verdict-room : work < workDue → planVerdict text work ≡ refused 8 0
+    pub verdict-room : work < workingNumbers → planVerdict text work ≡ refused 8 0
     unfolding planVerdict
-    verdict-room h = rw (accepted-as text p means number, lt-ltb work workDue h)
+    verdict-room h = rw (accepted-as text p means number, lt-ltb work workingNumbers h)
 
-    pub verdict-served : workDue ≤ work → planVerdict text work ≡ verdictOf (netlistOf (p .circuit))
+    pub verdict-served : workingNumbers ≤ work → planVerdict text work ≡ verdictOf (netlistOf (p .circuit))
     unfolding planVerdict
-    verdict-served h = rw (accepted-as text p means number, le-ltb work workDue h)
+    verdict-served h = rw (accepted-as text p means number, le-ltb work workingNumbers h)
 
 -- The working numbers.
 
@@ -232,9 +232,9 @@ module _ (c : Circuit) (size : Sized c) where
   front-used front before long = record {
     later-kept =
         let few = due-few c size in
-        let split : workDue ≡ length front + (workDue - (due c size)) = omega arith in
-        let join : (due c size) + (workDue - (due c size)) ≡ workDue = omega arith in
-        ap (λ (k : ℕ). drop k (front ++ drop (due c size) before)) split ∙ drop-append-add front (drop (due c size) before) (workDue - (due c size))
-        ∙ drop-drop (workDue - (due c size)) (due c size) before ∙ ap (λ (k : ℕ). drop k before) join;
+        let split : workingNumbers ≡ length front + (workingNumbers - (due c size)) = omega arith in
+        let join : (due c size) + (workingNumbers - (due c size)) ≡ workingNumbers = omega arith in
+        ap (λ (k : ℕ). drop k (front ++ drop (due c size) before)) split ∙ drop-append-add front (drop (due c size) before) (workingNumbers - (due c size))
+        ∙ drop-drop (workingNumbers - (due c size)) (due c size) before ∙ ap (λ (k : ℕ). drop k before) join;
     all-kept = λ none. clash (sym (verdict-uses (netlistOf c)) ∙ none);
   }

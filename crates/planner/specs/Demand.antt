@@ -12,7 +12,7 @@ use Rattle.cover.specs.Sets.{distinct, precedes}
 use Rattle.netlist.specs.Circuits.{Netlist, faultAt}
 use Rattle.simulation.specs.Rows.{rowValue, rowsOf}
 use Rattle.statements.specs.Items.{sound}
-use Rattle.walsh.specs.Spectrum.{coefficientOf}
+use Rattle.transform.specs.Spectrum.{coefficientOf}
 use Rattle.planner.specs.declared.Planned.{Planned}
 
 -- the fault's number is one of the text's

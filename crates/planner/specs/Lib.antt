@@ -1,3 +1,2 @@
-pub mod CircuitCall
 pub mod PlanCall
 pub mod Demand

@@ -45,12 +45,12 @@ verdictOf n =
     cond (ltb (silentFirst n) (length (n .faults))) (refused 13 (suc (silentFirst n)))
     (searched (signatureOf (soundRows n) (faultedRows n) (n .cap)))
 
-abbrev pub workDue : ℕ
-workDue = 4608
+abbrev pub workingNumbers : ℕ
+workingNumbers = 4608
 
 -- the text's own refusals, then 8 unless there are enough working numbers
 abbrev pub planIn : Parse → ℕ → Verdict
-planIn (accepted n) work = cond (ltb work workDue) (refused 8 0) (verdictOf n)
+planIn (accepted n) work = cond (ltb work workingNumbers) (refused 8 0) (verdictOf n)
 planIn (rejected number place) work = refused number place
 
 unfoldable pub planVerdict : List ℕ → ℕ → Verdict
@@ -74,5 +74,5 @@ mayUse v = eqb (refusalNumber v) 0 || (eqb (refusalNumber v) 13 || eqb (refusalN
 
 -- what holds of the working numbers afterwards
 pub record WorkKept (v : Verdict) (before after : List ℕ) : Type 0 where
-  pub later-kept : drop workDue after ≡ drop workDue before
+  pub later-kept : drop workingNumbers after ≡ drop workingNumbers before
   pub all-kept : mayUse v ≡ false → after ≡ before

@@ -1,13 +1,13 @@
 // The calls of document 01 on a circuit text that give a spectrum or a plan; the report is the crate `report`'s.
-mod circuit_call;
 mod plan_call;
 
-pub use circuit_call::circuit_spectrum;
 pub use plan_call::plan;
 
 // Leaves for crates of this repository, with a `requires`: no calls of the papers.
-pub use circuit_call::fault_spectrum;
 pub use plan_call::plan_circuit;
+
+// The working numbers of 32 bits that a plan asks for.
+pub const WORKING_NUMBERS: usize = 4608;
 
 // Number 0 with a plan of `size` labels; label places past the size hold 0. With a refusal size and labels are 0.
 pub struct Planned {

@@ -1,5 +1,6 @@
 // The plan: the shortest set of labels that shows every fault of a circuit.
 use crate::Planned;
+use crate::WORKING_NUMBERS;
 use netlist::Circuit;
 ghost use mathlib.Core.Path.{_≡_};
 ghost use Prim.Native.Nat.{_^_, _≤_};
@@ -8,7 +9,7 @@ ghost use Rattle.cover.specs.Order.{labelsBelow};
 ghost use Rattle.cover.specs.Steps.{masksOf};
 ghost use Rattle.netlist.specs.Circuits.{netlistOf, Sized};
 ghost use Rattle.netlist.specs.WellFormed.{WellFormed};
-ghost use Rattle.planner.specs.PlanCall.{refused, soundRows, faultedRows, silentFirst, verdictOf, workDue, planNumbers, planVerdict, planAnswer, WorkKept};
+ghost use Rattle.planner.specs.PlanCall.{refused, soundRows, faultedRows, silentFirst, verdictOf, workingNumbers, planNumbers, planVerdict, planAnswer, WorkKept};
 
 fn refuse(number: u32, place: usize) -> Planned
     ensures { λ r. ⌜ r ≡ planNumbers (refused number place) ⌝ }
@@ -39,7 +40,7 @@ fn mark_faults(
     let count = c.head.faults;
     let mut f: usize = 0;
     while f < count {
-        simulation::rows(c, simulation::fault_at(c, f + 1), faulted);
+        simulation::rows(c, netlist::fault_at(c, f + 1), faulted);
         if cover::mark(sound, faulted, labels, inputs, f as u32, masks) {
             return f;
         }
@@ -60,7 +61,7 @@ fn plan_by(
     requires { ⌜ now labels ≡ labelsBelow (2 ^ c .head .inputs) ⌝ }
     ensures { λ r. ⌜ r ≡ planNumbers (verdictOf (netlistOf c)) ⌝ }
 {
-    simulation::rows(c, simulation::fault_at(c, 0), sound);
+    simulation::rows(c, netlist::fault_at(c, 0), sound);
     let count = c.head.faults;
     let first = mark_faults(c, sound, faulted, labels, masks);
     if first < count {
@@ -82,7 +83,7 @@ fn plan_by(
 
 // The same with rows of its own; one mask a label is all that it uses of the working numbers.
 pub fn plan_circuit(c: Circuit, work: &mut [u32]) -> Planned
-    requires { ⌜ Sized c × WellFormed (netlistOf c) × (workDue ≤ length (now work)) ⌝ }
+    requires { ⌜ Sized c × WellFormed (netlistOf c) × (workingNumbers ≤ length (now work)) ⌝ }
     ensures { λ r. ⌜ r ≡ planNumbers (verdictOf (netlistOf c)) ⌝ }
     ensures { λ _. ⌜ WorkKept (verdictOf (netlistOf c)) (now (work .entry)) (now (work .exit)) ⌝ }
 {
@@ -109,7 +110,7 @@ pub fn plan(text: &[u8], work: &mut [u32]) -> Planned
     if number != 0 {
         return refuse(number, p.place);
     }
-    if work.len() < 4608 {
+    if work.len() < WORKING_NUMBERS {
         return refuse(8, 0);
     }
     plan_circuit(p.circuit, work)

@@ -1,5 +1,5 @@
 -- The sum and the count of the rows that agree, row by row:
---   sum-le, term-room        the size of a partial sum; one more row of rows within 1,000 leaves one that fits 32 bits
+--   total-le, total-room        the size of a partial sum; one more row of rows within 1,000 leaves one that fits 32 bits
 --   count-le                 a count is at most the number of rows
 --   sum-taken, sum-left, count-taken, count-left    one row more, that agrees or not
 use mathlib.Core.Path.{_≡_, ap, sym, _∙_}
@@ -26,12 +26,12 @@ module _ (mask values : ℕ) (rows : List ℤ) where
       go true = le-refl (natAbs (nth rows x))
       go false = zero-le
 
-  pub sum-le : (B n : ℕ) → n ≤ length rows → Within B rows → natAbs (sumTo n (termAt mask values rows)) ≤ n * B
-  sum-le = partial-le rows (termAt mask values rows) term-small
+  pub total-le : (B n : ℕ) → n ≤ length rows → Within B rows → natAbs (sumTo n (termAt mask values rows)) ≤ n * B
+  total-le = partial-le rows (termAt mask values rows) term-small
 
-  pub term-room : (i : ℕ) → length rows ≤ 2048 → Within 1000 rows → i < length rows
+  pub total-room : (i : ℕ) → length rows ≤ 2048 → Within 1000 rows → i < length rows
       → natAbs (sumTo i (termAt mask values rows)) + natAbs (nth rows i) < 2 ^ 31
-  term-room = partial-room rows (termAt mask values rows) term-small
+  total-room = partial-room rows (termAt mask values rows) term-small
 
   module _ (i : ℕ) where
     pub sum-taken : bitAnd i mask ≡ values → sumTo i (termAt mask values rows) +ℤ nth rows i ≡ sumTo (i + 1) (termAt mask values rows)

@@ -14,22 +14,22 @@ use lib.ListN.{length}
 use lib.Pow.{pow-mono}
 use Rattle.integer.specs.Tab.{Within}
 use Rattle.reading.specs.Exact.{Exact}
-use Rattle.reading.specs.Readings.{countOf, quotient, valueOf, wholeSum}
+use Rattle.reading.specs.Readings.{countOf, quotient, meanOf, wholeSum}
 use Rattle.reading.proofs.Counts.{count-power}
 use Rattle.reading.proofs.Exactness.{quotient-exact, difference-exact}
-use Rattle.reading.proofs.Totals.{sum-le}
+use Rattle.reading.proofs.Totals.{total-le}
 
 pub whole-bounded : (mask values : ℕ) (rows : List ℤ) → length rows ≤ 2048 → Within 1000 rows → natAbs (wholeSum mask values rows) ≤ 2048000
 unfolding wholeSum
-whole-bounded mask values rows few h = omega (arith, sum-le mask values rows 1000 (length rows) (le-refl (length rows)) h)
+whole-bounded mask values rows few h = omega (arith, total-le mask values rows 1000 (length rows) (le-refl (length rows)) h)
 
 module _ (n mask values : ℕ) (most : n ≤ 11) (below : mask < 2 ^ n) (within : bitAnd values mask ≡ values) where
   module _ (rows : List ℤ) (long : length rows ≡ 2 ^ n) (near : Within 1000 rows) where
     bounded : natAbs (wholeSum mask values rows) ≤ 2048000
     bounded = whole-bounded mask values rows (subst⁻¹ (λ (k : ℕ). k ≤ 2048) long (pow-mono most)) near
 
-    pub value-exact : Exact (valueOf mask values rows) (wholeSum mask values rows) (countOf mask values (2 ^ n))
-    unfolding valueOf
+    pub value-exact : Exact (meanOf mask values rows) (wholeSum mask values rows) (countOf mask values (2 ^ n))
+    unfolding meanOf
     value-exact =
         let p = count-power n mask values below within in
         subst⁻¹ (λ (k : ℕ). Exact (quotient (wholeSum mask values rows) (countOf mask values k)) (wholeSum mask values rows) (countOf mask values (2 ^ n))) long
@@ -37,11 +37,11 @@ module _ (n mask values : ℕ) (most : n ≤ 11) (below : mask < 2 ^ n) (within 
         (quotient-exact (wholeSum mask values rows) (p .free) (omega (arith, bounded)) (omega (arith, p .inputs))))
 
   pub value-difference : (rows others : List ℤ) → length rows ≡ 2 ^ n → length others ≡ 2 ^ n → Within 1000 rows → Within 1000 others
-      → Exact (sub binary64 (valueOf mask values rows) (valueOf mask values others)) (wholeSum mask values rows -ℤ wholeSum mask values others) (countOf mask values (2 ^ n))
+      → Exact (sub binary64 (meanOf mask values rows) (meanOf mask values others)) (wholeSum mask values rows -ℤ wholeSum mask values others) (countOf mask values (2 ^ n))
   value-difference rows others long even near close =
       let p = count-power n mask values below within in
-      let x = valueOf mask values rows in
-      let y = valueOf mask values others in
+      let x = meanOf mask values rows in
+      let y = meanOf mask values others in
       subst⁻¹ (λ (c : ℕ). Exact (sub binary64 x y) (wholeSum mask values rows -ℤ wholeSum mask values others) c) (p .is)
       (difference-exact (p .free) (omega (arith, p .inputs)) x y (wholeSum mask values rows) (wholeSum mask values others)
       (omega (arith, bounded rows long near)) (omega (arith, bounded others even close))

@@ -14,7 +14,7 @@ use lib.IntN.{ℤ, pos}
 use lib.ListN.{length}
 use Rattle.integer.specs.Sum.{sumTo}
 use Rattle.integer.specs.Tab.{nth}
-use Rattle.reading.specs.declared.Pair.{Pair}
+use Rattle.reading.specs.declared.ReadingPair.{ReadingPair}
 use Rattle.reading.specs.declared.Reading.{Reading}
 use Rattle.reading.specs.declared.Reading.the-variants.{Syndrome, Weighted, Constrained, Refused}
 
@@ -42,8 +42,8 @@ wholeSum mask values rows = sumTo (length rows) (termAt mask values rows)
 unfoldable pub quotient : ℤ → ℕ → Float
 quotient sum count = div binary64 (ofInt binary64 sum) (ofInt binary64 (pos count))
 
-unfoldable pub valueOf : ℕ → ℕ → List ℤ → Float
-valueOf mask values rows = quotient (wholeSum mask values rows) (countOf mask values (length rows))
+unfoldable pub meanOf : ℕ → ℕ → List ℤ → Float
+meanOf mask values rows = quotient (wholeSum mask values rows) (countOf mask values (length rows))
 
 -- the case of a value: constrained unless the mask is 0, then weighted or plain
 abbrev pub caseWith : Bool → Bool → ℕ → Float → Reading
@@ -54,7 +54,7 @@ caseWith true false fixed x = Syndrome x
 unfoldable pub caseOf : Bool → ℕ → Float → Reading
 caseOf weighted mask x = caseWith (eqb mask 0) weighted (ones mask) x
 
-unfoldable pub pairOf : Float → Float → Pair
+unfoldable pub pairOf : Float → Float → ReadingPair
 pairOf sound faulty = record { sound = sound; faulty = faulty; difference = sub binary64 sound faulty }
 
 -- +0, the reading with a refusal
@@ -62,17 +62,17 @@ abbrev pub none : Float
 none = fin false 0 (pos 0)
 
 -- document 01's number and values of a reading
-abbrev pub numberOf : Reading → ℕ
-numberOf (Syndrome x) = 0
-numberOf (Weighted x) = 0
-numberOf (Constrained x fixed) = 0
-numberOf (Refused number place) = number
+abbrev pub readingNumber : Reading → ℕ
+readingNumber (Syndrome x) = 0
+readingNumber (Weighted x) = 0
+readingNumber (Constrained x fixed) = 0
+readingNumber (Refused number place) = number
 
-abbrev pub placeOf : Reading → ℕ
-placeOf (Syndrome x) = 0
-placeOf (Weighted x) = 0
-placeOf (Constrained x fixed) = 0
-placeOf (Refused number place) = place
+abbrev pub readingPlace : Reading → ℕ
+readingPlace (Syndrome x) = 0
+readingPlace (Weighted x) = 0
+readingPlace (Constrained x fixed) = 0
+readingPlace (Refused number place) = place
 
 abbrev pub readingOf : Reading → Float
 readingOf (Syndrome x) = x

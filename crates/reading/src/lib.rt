@@ -3,7 +3,7 @@ ghost use mathlib.Core.Path.{_≡_};
 ghost use Prim.Native.Nat.{_≤_};
 ghost use lib.ListN.{length};
 ghost use Rattle.integer.specs.Tab.{Within};
-ghost use Rattle.reading.specs.Readings.{wholeSum, countOf, quotient, valueOf, caseOf, pairOf};
+ghost use Rattle.reading.specs.Readings.{wholeSum, countOf, quotient, meanOf, caseOf, pairOf};
 
 // A reading by its case; a constrained one has the number of fixed inputs.
 pub enum Reading {
@@ -14,7 +14,7 @@ pub enum Reading {
 }
 
 // The readings of a sound circuit and a faulty one, and sound minus faulty.
-pub struct Pair {
+pub struct ReadingPair {
     pub sound: f64,
     pub faulty: f64,
     pub difference: f64,
@@ -59,11 +59,11 @@ fn fraction(sum: i32, count: u32) -> f64
     (sum as f64) / (count as f64)
 }
 
-// The sum of those rows by their count.
-pub fn value(rows: &[i32], mask: u32, values: u32) -> f64
+// The mean of those rows: their sum by their count.
+pub fn mean(rows: &[i32], mask: u32, values: u32) -> f64
     requires { ⌜ length (now rows) ≤ 2048 ⌝ }
     requires { ⌜ Within 1000 (now rows) ⌝ }
-    ensures { λ r. ⌜ r ≡ valueOf mask values (now (rows .entry)) ⌝ }
+    ensures { λ r. ⌜ r ≡ meanOf mask values (now (rows .entry)) ⌝ }
 {
     let count = count_of(rows.len() as u32, mask, values);
     fraction(sum_of(rows, mask, values), count)
@@ -83,10 +83,10 @@ pub fn case_of(value: f64, mask: u32, weighted: bool) -> Reading
     }
 }
 
-pub fn pair_of(sound: f64, faulty: f64) -> Pair
+pub fn pair_of(sound: f64, faulty: f64) -> ReadingPair
     ensures { λ r. ⌜ r ≡ pairOf sound faulty ⌝ }
 {
-    Pair {
+    ReadingPair {
         sound,
         faulty,
         difference: sound - faulty,

@@ -30,10 +30,10 @@ use Rattle.netlist.proofs.Assembling.{meant}
 use Rattle.netlist.proofs.Refusals.{text-refused}
 use Rattle.simulation.proofs.RowBounds.{length-rows}
 use Rattle.statements.specs.Items.{sound as unfaulted}
-use Rattle.text.specs.Writing.{placed, gather}
-use Rattle.text.proofs.Writings.{length-placed, placed-more, placed-front, gather-length}
-use Rattle.planner.specs.PlanCall.{Verdict, refused, planned, soundRows, faultedRows, searched, silentFirst, verdictOf, workDue, planVerdict, planNumbers, WorkKept}
-use Rattle.report.specs.ReportCall.{planLine, refusedLine, labelLine, faultLine, planLines, verdictLines, reportIn, reportOf, bytesDue, short, reportAnswer, reportLeft, reportVerdict}
+use Rattle.writing.specs.Writing.{placed, gather}
+use Rattle.writing.proofs.Writings.{length-placed, placed-more, placed-front, gather-length}
+use Rattle.planner.specs.PlanCall.{Verdict, refused, planned, soundRows, faultedRows, searched, silentFirst, verdictOf, workingNumbers, planVerdict, planNumbers, WorkKept}
+use Rattle.report.specs.ReportCall.{planLine, refusedLine, labelLine, faultReportLine, planLines, verdictLines, reportIn, reportOf, reportBytes, short, reportAnswer, reportLeft, reportVerdict}
 use Rattle.planner.specs.declared.Planned.{Planned}
 use Rattle.report.specs.declared.Reported.{Reported}
 use Rattle.planner.proofs.FaultRows.{fault-count}
@@ -44,10 +44,10 @@ module _ (n : Netlist) (right : WellFormed n) (labels : List ℕ) (low : Below (
   label-part : length (gather (labelLine (soundRows n) labels) (length labels)) ≤ length labels * 17
   label-part = gather-length 17 (labelLine (soundRows n) labels) (length labels) (label-line-length n right labels low)
 
-  fault-part : length (gather (faultLine (soundRows n) (faultedRows n) labels) (length (faultedRows n))) ≤ length (faultedRows n) * 20
+  fault-part : length (gather (faultReportLine (soundRows n) (faultedRows n) labels) (length (faultedRows n))) ≤ length (faultedRows n) * 20
   fault-part =
       let q = fault-count n in
-      gather-length 20 (faultLine (soundRows n) (faultedRows n) labels) (length (faultedRows n)) (λ f h. fault-line-length n right labels low f (omega (arith, h, q)))
+      gather-length 20 (faultReportLine (soundRows n) (faultedRows n) labels) (length (faultedRows n)) (λ f h. fault-line-length n right labels low f (omega (arith, h, q)))
 
   module _ (small : length labels ≤ 4) where
     abbrev A : List ℕ
@@ -57,7 +57,7 @@ module _ (n : Netlist) (right : WellFormed n) (labels : List ℕ) (low : Below (
     B = gather (labelLine (soundRows n) labels) (length labels)
 
     abbrev C : List ℕ
-    C = gather (faultLine (soundRows n) (faultedRows n) labels) (length (faultedRows n))
+    C = gather (faultReportLine (soundRows n) (faultedRows n) labels) (length (faultedRows n))
 
     long : length (planLines (soundRows n) (faultedRows n) labels) ≡ length A + length B + length C
     unfolding planLines
@@ -70,7 +70,7 @@ module _ (n : Netlist) (right : WellFormed n) (labels : List ℕ) (low : Below (
         omega (arith, long, a, label-part, fault-part, small, q, right .faults-high)
 
     -- written one behind the other
-    module _ (out : List ℕ) (wide : 1024 ≤ length out) {at : ℕ} {one : List ℕ} (first : (at ≡ 0 + length A) × (one ≡ placed 0 A out)) where
+    module _ (out : List ℕ) (wide : reportBytes ≤ length out) {at : ℕ} {one : List ℕ} (first : (at ≡ 0 + length A) × (one ≡ placed 0 A out)) where
       head : length A ≤ 7
       head = plan-length (length labels) (omega (arith, small))
 
@@ -108,11 +108,11 @@ module _ (n : Netlist) (right : WellFormed n) (labels : List ℕ) (low : Below (
 -- ---- verdicts
 
 -- a verdict's numbers are small, and its labels those of the circuit
-abbrev pub Fitting : Netlist → Verdict → Type 0
-Fitting n (refused number place) = (1 ≤ number) × (number < 100) × (place < 1000)
-Fitting n (planned labels) = Below (2 ^ n .inputs) labels × (length labels ≤ 4)
+abbrev pub LinesFit : Netlist → Verdict → Type 0
+LinesFit n (refused number place) = (1 ≤ number) × (number < 100) × (place < 1000)
+LinesFit n (planned labels) = Below (2 ^ n .inputs) labels × (length labels ≤ 4)
 
-searched-fitting : (n : Netlist) → WellFormed n → (o : Option (List ℕ)) → signatureOf (soundRows n) (faultedRows n) (n .cap) ≡ o → Fitting n (searched o)
+searched-fitting : (n : Netlist) → WellFormed n → (o : Option (List ℕ)) → signatureOf (soundRows n) (faultedRows n) (n .cap) ≡ o → LinesFit n (searched o)
 searched-fitting n right none e = (lit≤ tt, lit≤ tt, lit≤ tt)
 searched-fitting n right (some labels) e =
     let r = signature-found (soundRows n) (faultedRows n) (n .cap) labels e in (
@@ -120,16 +120,16 @@ searched-fitting n right (some labels) e =
       omega (arith, r .2, right .cap-high),
     )
 
-pub verdict-fitting : (n : Netlist) → WellFormed n → Fitting n (verdictOf n)
+pub verdict-fitting : (n : Netlist) → WellFormed n → LinesFit n (verdictOf n)
 unfolding verdictOf
 verdict-fitting n right = go (ltb (silentFirst n) (length (n .faults))) refl
   where
     go : (t : Bool) → ltb (silentFirst n) (length (n .faults)) ≡ t
-        → Fitting n (cond t (refused 13 (suc (silentFirst n))) (searched (signatureOf (soundRows n) (faultedRows n) (n .cap))))
+        → LinesFit n (cond t (refused 13 (suc (silentFirst n))) (searched (signatureOf (soundRows n) (faultedRows n) (n .cap))))
     go true e = (lit≤ tt, lit≤ tt, omega (arith, ltb-true (silentFirst n) (length (n .faults)) e, right .faults-high))
     go false e = searched-fitting n right (signatureOf (soundRows n) (faultedRows n) (n .cap)) refl
 
-verdict-length : (n : Netlist) (right : WellFormed n) (v : Verdict) → Fitting n v → length (verdictLines n v) ≤ 715
+verdict-length : (n : Netlist) (right : WellFormed n) (v : Verdict) → LinesFit n v → length (verdictLines n v) ≤ 715
 verdict-length n right (refused number place) f = let l = refused-length number place (f .1) (f .2) in omega (arith, l)
 verdict-length n right (planned labels) f = plan-lines-length n right labels (f .0) (f .1)
 
@@ -140,11 +140,11 @@ refusal-small text number place e =
 
 -- the numbers of a verdict, and what its lines are
 module _ (n : Netlist) (p : Planned) where
-  pub refused-by : (v : Verdict) → Fitting n v → p ≡ planNumbers v → (p .number ≡ 0 → ⊥) → (p .number < 100) × (p .place < 1000) × (refusedLine (p .number) (p .place) ≡ verdictLines n v)
+  pub refused-by : (v : Verdict) → LinesFit n v → p ≡ planNumbers v → (p .number ≡ 0 → ⊥) → (p .number < 100) × (p .place < 1000) × (refusedLine (p .number) (p .place) ≡ verdictLines n v)
   refused-by (refused number place) f e h = rw e (f .1, f .2, refl)
   refused-by (planned labels) f e h = absurd (h (ap (λ (x : Planned). x .number) e))
 
-  pub planned-by : (v : Verdict) → Fitting n v → p ≡ planNumbers v → p .number ≡ 0
+  pub planned-by : (v : Verdict) → LinesFit n v → p ≡ planNumbers v → p .number ≡ 0
       → (p .size ≤ 4) × Below (2 ^ n .inputs) (take (p .size) (p .labels)) × (planLines (soundRows n) (faultedRows n) (take (p .size) (p .labels)) ≡ verdictLines n v)
   planned-by (refused number place) f e h = let k = ap (λ (x : Planned). x .number) e in absurd (omega (arith, f .0, k, h))
   planned-by (planned labels) f e h = rw e (rw (kept-four labels (f .1)) (f .1, f .0, refl))
@@ -191,39 +191,39 @@ module _ (text out work : List ℕ) where
   unfolding reportAnswer reportLeft
   too-short e = (rw e, (rw e, kept (reportVerdict text (length out) (length work)) work))
 
-  pub short-out : length out < bytesDue → Short
+  pub short-out : length out < reportBytes → Short
   unfolding short
-  short-out h = too-short (rw (lt-ltb (length out) bytesDue h))
+  short-out h = too-short (rw (lt-ltb (length out) reportBytes h))
 
-  pub short-work : length work < workDue → Short
+  pub short-work : length work < workingNumbers → Short
   unfolding short
-  short-work h = too-short (rw (lt-ltb (length work) workDue h) (either (ltb (length out) bytesDue)))
+  short-work h = too-short (rw (lt-ltb (length work) workingNumbers h) (either (ltb (length out) reportBytes)))
     where
       either : (b : Bool) → (b || true) ≡ true
       either true = refl
       either false = refl
 
-  pub report-served : bytesDue ≤ length out → workDue ≤ length work → {end : ℕ} {now after : List ℕ}
+  pub report-served : reportBytes ≤ length out → workingNumbers ≤ length work → {end : ℕ} {now after : List ℕ}
       → (end ≡ length (reportOf text)) × ((now ≡ placed 0 (reportOf text) out) × WorkKept (planVerdict text (length work)) work after)
       → (record { number = 0; bytes = end } ≡ reportAnswer text (length out) (length work))
       × ((now ≡ reportLeft text (length work) out) × WorkKept (reportVerdict text (length out) (length work)) work after)
   unfolding short reportAnswer reportLeft reportVerdict
   report-served h k r =
-      rw (le-ltb (length out) bytesDue h, le-ltb (length work) workDue k)
+      rw (le-ltb (length out) reportBytes h, le-ltb (length work) workingNumbers k)
       (ap (λ (n : ℕ). record { number = 0; bytes = n }) (r .0), (r .1 .0 ∙ placed-front (reportOf text) out, r .1 .1))
 
 -- the report stands at the front of the lent bytes, as many as the call counts
-pub report-front : (r : Reported) (text out now : List ℕ) (work : ℕ) → bytesDue ≤ length out → workDue ≤ work
+pub report-front : (r : Reported) (text out now : List ℕ) (work : ℕ) → reportBytes ≤ length out → workingNumbers ≤ work
     → r ≡ reportAnswer text (length out) work → now ≡ reportLeft text work out
     → ((r .bytes ≤ length now) × (r .bytes ≡ length (take (r .bytes) now))) × (take (r .bytes) now ≡ reportOf text)
 unfolding reportAnswer reportLeft short
 report-front r text out now work b w is left = ((within, bytes ∙ sym (ap length front)), front)
   where
     bytes : r .bytes ≡ length (reportOf text)
-    bytes = ap (λ (r : Reported). r .bytes) is ∙ rw (le-ltb (length out) bytesDue b, le-ltb work workDue w)
+    bytes = ap (λ (r : Reported). r .bytes) is ∙ rw (le-ltb (length out) reportBytes b, le-ltb work workingNumbers w)
 
     now-is : now ≡ reportOf text ++ drop (length (reportOf text)) out
-    now-is = left ∙ rw (le-ltb (length out) bytesDue b, le-ltb work workDue w)
+    now-is = left ∙ rw (le-ltb (length out) reportBytes b, le-ltb work workingNumbers w)
 
     front : take (r .bytes) now ≡ reportOf text
     front = ap₂ take bytes now-is ∙ take-append-seam (reportOf text) (drop (length (reportOf text)) out)

@@ -26,7 +26,7 @@ use Rattle.cover.proofs.Signatures.{ne-differ, eq-differ}
 use Rattle.integer.specs.First.{firstWhere}
 use Rattle.integer.specs.Tab.{nth, Within}
 use Rattle.integer.proofs.Firsts.{first-ext, first-hit, first-none}
-use Rattle.integer.proofs.Machine.{reads}
+use Rattle.integer.proofs.Machine.{reads-back}
 use Rattle.netlist.specs.Circuits.{Netlist, faultAt}
 use Rattle.netlist.specs.WellFormed.{WellFormed}
 use Rattle.simulation.specs.Rows.{rowsOf}
@@ -34,18 +34,18 @@ use Rattle.simulation.proofs.RowBounds.{length-rows}
 use Rattle.statements.specs.Items.{sound as unfaulted}
 use Rattle.statements.specs.Lines.{faultWord}
 use Rattle.statements.specs.declared.Fault.{Fault}
-use Rattle.text.specs.Writing.{placed, gather, lineOf}
-use Rattle.text.proofs.Writings.{natural-length, integer-length, gather-ext, line-one, line-two, line-three}
-use Rattle.walsh.specs.Answers.{leaves}
-use Rattle.walsh.specs.Spectrum.{coefficientOf, spectrumOf}
-use Rattle.walsh.specs.declared.Answer.{Answer}
-use Rattle.walsh.specs.declared.Answer.the-variants.{Done}
-use Rattle.walsh.proofs.Spectra.{length-spectrum, nth-spectrum}
-use Rattle.planner.specs.CircuitCall.{roomAnswer}
+use Rattle.writing.specs.Writing.{placed, gather, lineOf}
+use Rattle.writing.proofs.Writings.{natural-length, integer-length, gather-ext, line-one, line-two, line-three}
+use Rattle.screen.specs.Answers.{leaves}
+use Rattle.transform.specs.Spectrum.{coefficientOf, spectrumOf}
+use Rattle.screen.specs.declared.Answer.{Answer}
+use Rattle.screen.specs.declared.Answer.the-variants.{Done}
+use Rattle.transform.proofs.Spectra.{length-spectrum, nth-spectrum}
+use Rattle.circuit.specs.CircuitCall.{roomAnswer}
 use Rattle.planner.specs.PlanCall.{soundRows, faultedRows}
-use Rattle.report.specs.ReportCall.{planWord, labelWord, refusedWord, planLine, refusedLine, labelLine, coversAt, coveringLabel, faultLine}
+use Rattle.report.specs.ReportCall.{planWord, labelWord, refusedWord, planLine, refusedLine, labelLine, labelCovers, coveringLabel, faultReportLine}
 use Rattle.report.specs.Steps.{spectralLabelLine, differAt, spectralCovering}
-use Rattle.planner.proofs.CircuitLaws.{spectrum-bounded}
+use Rattle.circuit.proofs.CircuitLaws.{spectrum-bounded}
 use Rattle.planner.proofs.FaultRows.{fault-rows, fault-rows-next}
 
 -- ---- how long lines are
@@ -81,23 +81,23 @@ label-below n labels i h b = go (ltb i (length labels)) refl
 
 module _ (rows faulted : List ℤ) (labels : List ℕ) (same : length faulted ≡ length rows) (low : Below (length rows) labels) where
   pub covering-same : spectralCovering (spectrumOf rows) (spectrumOf faulted) labels ≡ coveringLabel rows faulted labels
-  unfolding spectralCovering coveringLabel differAt coversAt covers
+  unfolding spectralCovering coveringLabel differAt labelCovers covers
   covering-same =
       ap (λ (i : ℕ). getD labels i 0)
-      (first-ext (differAt (spectrumOf rows) (spectrumOf faulted) labels) (coversAt rows faulted labels) (length labels)
+      (first-ext (differAt (spectrumOf rows) (spectrumOf faulted) labels) (labelCovers rows faulted labels) (length labels)
       (λ i h. ap₂ differ (at-spectrum rows (getD labels i 0) (low i h)) (at-spectrum faulted (getD labels i 0) (let k = low i h in omega (arith, k, same)))))
 
 pub covering-below : (n : ℕ) (rows faulted : List ℤ) (labels : List ℕ) → 0 < n → Below n labels → coveringLabel rows faulted labels < n
 unfolding coveringLabel
-covering-below n rows faulted labels h b = label-below n labels (firstWhere (coversAt rows faulted labels) (length labels)) h b
+covering-below n rows faulted labels h b = label-below n labels (firstWhere (labelCovers rows faulted labels) (length labels)) h b
 
 -- ---- numbers as the code reads them
 
-pub natural-read : (n : ℕ) → n < 2 ^ 31 → toZ w32 n ≡ pos n
-natural-read n h = reads w32 (pos n) refl h
+pub natural-bits : (n : ℕ) → n < 2 ^ 31 → toZ w32 n ≡ pos n
+natural-bits n h = reads-back w32 (pos n) refl h
 
 pub integer-read : (z : ℤ) → natAbs z ≤ 15360 → toZ w32 (ofZ w32 z) ≡ z
-integer-read z h = reads w32 z refl (omega (arith, h))
+integer-read z h = reads-back w32 z refl (omega (arith, h))
 
 -- a line with its numbers as read
 module _ (at : ℕ) (read line out : List ℕ) (same : read ≡ line) where
@@ -109,15 +109,15 @@ module _ (at : ℕ) (read line out : List ℕ) (same : read ≡ line) where
 
 pub refused-read : (number place : ℕ) → number < 100 → place < 1000 → lineOf refusedWord (toZ w32 number ∷ toZ w32 place ∷ []) ≡ refusedLine number place
 unfolding refusedLine
-refused-read number place h k = rw (natural-read number (omega (arith, h)), natural-read place (omega (arith, k)))
+refused-read number place h k = rw (natural-bits number (omega (arith, h)), natural-bits place (omega (arith, k)))
 
 pub plan-read : (size : ℕ) → size < 10 → lineOf planWord (toZ w32 size ∷ []) ≡ planLine size
 unfolding planLine
-plan-read size h = rw (natural-read size (omega (arith, h)))
+plan-read size h = rw (natural-bits size (omega (arith, h)))
 
 pub label-read : (label : ℕ) (value : ℤ) → label < 256 → natAbs value ≤ 15360
     → lineOf labelWord (toZ w32 label ∷ toZ w32 (ofZ w32 value) ∷ []) ≡ lineOf labelWord (pos label ∷ value ∷ [])
-label-read label value h k = ap₂ (λ (a b : ℤ). lineOf labelWord (a ∷ b ∷ [])) (natural-read label (omega (arith, h))) (integer-read value k)
+label-read label value h k = ap₂ (λ (a b : ℤ). lineOf labelWord (a ∷ b ∷ [])) (natural-bits label (omega (arith, h))) (integer-read value k)
 
 -- ---- the first covering label
 
@@ -223,8 +223,8 @@ module _ (n : Netlist) (right : WellFormed n) (labels : List ℕ) (low : Below (
     covering-near : natAbs (coefficientOf F L) ≤ 15360
     covering-near = subst (λ (l : List ℤ). natAbs (coefficientOf l L) ≤ 15360) (sym (fault-rows n f h)) (near (faultAt n (suc f)) L covering-low)
 
-    pub fault-line-length : length (faultLine S (faultedRows n) labels f) ≤ 20
-    unfolding faultLine
+    pub fault-line-length : length (faultReportLine S (faultedRows n) labels f) ≤ 20
+    unfolding faultReportLine
     fault-line-length = fault-length f L (coefficientOf F L) (omega (arith, h, right .faults-high)) (omega (arith, covering-low, few)) covering-near
 
     -- the line with its numbers as read, from the spectra and the label that was found
@@ -240,14 +240,14 @@ module _ (n : Netlist) (right : WellFormed n) (labels : List ℕ) (low : Below (
       value-is = ap₂ nth faulted-is covering-is ∙ at-spectrum F L (omega (arith, covering-low, long))
 
       pub fault-read : (label < 256) × (label < length faulted)
-          × (lineOf faultWord (toZ w32 (f + 1) ∷ toZ w32 label ∷ toZ w32 (ofZ w32 (nth faulted label)) ∷ []) ≡ faultLine S (faultedRows n) labels f)
-      unfolding faultLine
+          × (lineOf faultWord (toZ w32 (f + 1) ∷ toZ w32 label ∷ toZ w32 (ofZ w32 (nth faulted label)) ∷ []) ≡ faultReportLine S (faultedRows n) labels f)
+      unfolding faultReportLine
       fault-read =
           let e = ap length faulted-is ∙ length-spectrum F ∙ long in (
             omega (arith, covering-is, covering-low, few),
             omega (arith, covering-is, covering-low, e),
-            line-same (natural-read (f + 1) (omega (arith, h, right .faults-high)) ∙ ap pos (add-one f))
-                (ap (toZ w32) covering-is ∙ natural-read L (omega (arith, covering-low, few)))
+            line-same (natural-bits (f + 1) (omega (arith, h, right .faults-high)) ∙ ap pos (add-one f))
+                (ap (toZ w32) covering-is ∙ natural-bits L (omega (arith, covering-low, few)))
                 (ap (λ (z : ℤ). toZ w32 (ofZ w32 z)) value-is ∙ integer-read (coefficientOf F L) covering-near),
           )
         where

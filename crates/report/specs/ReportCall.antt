@@ -9,25 +9,25 @@ use mathlib.Core.List.{List, [], _∷_, _++_}
 use lib.Dec.{ltb}
 use lib.IntN.{ℤ, pos}
 use lib.ListN.{length, getD, drop}
+use Rattle.text.specs.Text.{bytesOf}
 use Rattle.cover.specs.Cover.{covers, faultRows}
 use Rattle.integer.specs.First.{firstWhere}
 use Rattle.netlist.specs.Circuits.{Netlist}
 use Rattle.netlist.specs.Parsing.{Parse, accepted, rejected, parseOf}
 use Rattle.statements.specs.Lines.{faultWord}
-use Rattle.text.specs.Writing.{gather, lineOf}
-use Rattle.walsh.specs.Spectrum.{coefficientOf}
-use Rattle.planner.specs.PlanCall.{Verdict, refused, planned, soundRows, faultedRows, workDue, verdictOf, planVerdict}
+use Rattle.writing.specs.Writing.{gather, lineOf}
+use Rattle.transform.specs.Spectrum.{coefficientOf}
+use Rattle.planner.specs.PlanCall.{Verdict, refused, planned, soundRows, faultedRows, workingNumbers, verdictOf, planVerdict}
 use Rattle.report.specs.declared.Reported.{Reported}
 
--- the words, as bytes
 abbrev pub planWord : List ℕ
-planWord = 112 ∷ 108 ∷ 97 ∷ 110 ∷ []
+planWord = bytesOf "plan"
 
 abbrev pub labelWord : List ℕ
-labelWord = 108 ∷ 97 ∷ 98 ∷ 101 ∷ 108 ∷ []
+labelWord = bytesOf "label"
 
 abbrev pub refusedWord : List ℕ
-refusedWord = 114 ∷ 101 ∷ 102 ∷ 117 ∷ 115 ∷ 101 ∷ 100 ∷ []
+refusedWord = bytesOf "refused"
 
 unfoldable pub planLine : ℕ → List ℕ
 planLine size = lineOf planWord (pos size ∷ [])
@@ -39,21 +39,21 @@ refusedLine number place = lineOf refusedWord (pos number ∷ pos place ∷ [])
 unfoldable pub labelLine : List ℤ → List ℕ → ℕ → List ℕ
 labelLine rows labels i = lineOf labelWord (pos (getD labels i 0) ∷ coefficientOf rows (getD labels i 0) ∷ [])
 
-unfoldable pub coversAt : List ℤ → List ℤ → List ℕ → ℕ → Bool
-coversAt rows faulted labels i = covers rows faulted (getD labels i 0)
+unfoldable pub labelCovers : List ℤ → List ℤ → List ℕ → ℕ → Bool
+labelCovers rows faulted labels i = covers rows faulted (getD labels i 0)
 
 -- the plan's first label that covers the fault
 unfoldable pub coveringLabel : List ℤ → List ℤ → List ℕ → ℕ
-coveringLabel rows faulted labels = getD labels (firstWhere (coversAt rows faulted labels) (length labels)) 0
+coveringLabel rows faulted labels = getD labels (firstWhere (labelCovers rows faulted labels) (length labels)) 0
 
 -- the line of fault f, from 0, with the faulted coefficient
-unfoldable pub faultLine : List ℤ → List (List ℤ) → List ℕ → ℕ → List ℕ
-faultLine rows faults labels f =
+unfoldable pub faultReportLine : List ℤ → List (List ℤ) → List ℕ → ℕ → List ℕ
+faultReportLine rows faults labels f =
     lineOf faultWord (pos (suc f) ∷ pos (coveringLabel rows (faultRows faults f) labels) ∷ coefficientOf (faultRows faults f) (coveringLabel rows (faultRows faults f) labels) ∷ [])
 
 unfoldable pub planLines : List ℤ → List (List ℤ) → List ℕ → List ℕ
 planLines rows faults labels =
-    planLine (length labels) ++ (gather (labelLine rows labels) (length labels) ++ gather (faultLine rows faults labels) (length faults))
+    planLine (length labels) ++ (gather (labelLine rows labels) (length labels) ++ gather (faultReportLine rows faults labels) (length faults))
 
 abbrev pub verdictLines : Netlist → Verdict → List ℕ
 verdictLines n (refused number place) = refusedLine number place
@@ -66,12 +66,12 @@ reportIn (rejected number place) = refusedLine number place
 unfoldable pub reportOf : List ℕ → List ℕ
 reportOf text = reportIn (parseOf text)
 
-abbrev pub bytesDue : ℕ
-bytesDue = 1024
+abbrev pub reportBytes : ℕ
+reportBytes = 1024
 
 -- either lent buffer is short
 unfoldable pub short : ℕ → ℕ → Bool
-short room work = ltb room bytesDue || ltb work workDue
+short room work = ltb room reportBytes || ltb work workingNumbers
 
 unfoldable pub reportAnswer : List ℕ → ℕ → ℕ → Reported
 reportAnswer text room work = cond (short room work) (record { number = 8; bytes = 0 }) (record { number = 0; bytes = length (reportOf text) })

@@ -7,7 +7,7 @@ use lib.ListN.{length, getD}
 use Rattle.cover.specs.Cover.{differ}
 use Rattle.integer.specs.First.{firstWhere}
 use Rattle.integer.specs.Tab.{nth}
-use Rattle.text.specs.Writing.{lineOf}
+use Rattle.writing.specs.Writing.{lineOf}
 use Rattle.report.specs.ReportCall.{labelWord}
 
 unfoldable pub spectralLabelLine : List ℤ → List ℕ → ℕ → List ℕ

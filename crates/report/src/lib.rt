@@ -1,6 +1,7 @@
 // The report: the plan with its sound coefficients, and for each fault what the fixture counts under it.
 use netlist::Circuit;
 use planner::Planned;
+use planner::WORKING_NUMBERS;
 ghost use mathlib.Core.List.{[], _∷_};
 ghost use mathlib.Core.Path.{_≡_};
 ghost use Prim.Native.Nat.{_+_, _*_, _≤_, _<_, _^_};
@@ -10,11 +11,14 @@ ghost use Rattle.cover.specs.Steps.{Below};
 ghost use Rattle.integer.specs.Tab.{Within, nth};
 ghost use Rattle.netlist.specs.Circuits.{netlistOf, Sized};
 ghost use Rattle.netlist.specs.WellFormed.{WellFormed};
-ghost use Rattle.planner.specs.PlanCall.{soundRows, faultedRows, verdictOf, planNumbers, planVerdict, WorkKept};
-ghost use Rattle.report.specs.ReportCall.{labelWord, refusedLine, faultLine, planLines, verdictLines, reportOf, reportAnswer, reportLeft, reportVerdict};
+ghost use Rattle.planner.specs.PlanCall.{workingNumbers, soundRows, faultedRows, verdictOf, planNumbers, planVerdict, WorkKept};
+ghost use Rattle.report.specs.ReportCall.{reportBytes, labelWord, refusedLine, faultReportLine, planLines, verdictLines, reportOf, reportAnswer, reportLeft, reportVerdict};
 ghost use Rattle.report.specs.Steps.{spectralLabelLine, spectralCovering};
-ghost use Rattle.text.specs.Writing.{placed, gather, lineOf};
-ghost use Rattle.walsh.specs.Spectrum.{spectrumOf};
+ghost use Rattle.writing.specs.Writing.{placed, gather, lineOf};
+ghost use Rattle.transform.specs.Spectrum.{spectrumOf};
+
+// Every report has at most so many bytes.
+pub const REPORT_BYTES: usize = 1024;
 
 // Number 0 and how many bytes the report has, or number 8.
 pub struct Reported {
@@ -24,12 +28,12 @@ pub struct Reported {
 
 // The line of a refusal, at the front.
 fn refused_line(out: &mut [u8], number: u32, place: usize) -> usize
-    requires { ⌜ (1024 ≤ length (now out)) × (number < 100) × (place < 1000) ⌝ }
+    requires { ⌜ (reportBytes ≤ length (now out)) × (number < 100) × (place < 1000) ⌝ }
     ensures { λ r. ⌜ r ≡ length (refusedLine number place) ⌝ }
     ensures { λ _. ⌜ now (out .exit) ≡ placed 0 (refusedLine number place) (now (out .entry)) ⌝ }
 {
     let numbers = [number as i32, place as i32];
-    text::put_line(out, 0, b"refused", &numbers)
+    writing::put_line(out, 0, b"refused", &numbers)
 }
 
 // The line of a label, with its sound coefficient.
@@ -40,7 +44,7 @@ fn label_line(out: &mut [u8], at: usize, label: u32, sound: &[i32]) -> usize
 {
     let value = sound[label as usize];
     let numbers = [label as i32, value];
-    text::put_line(out, at, b"label", &numbers)
+    writing::put_line(out, at, b"label", &numbers)
 }
 
 fn label_lines(out: &mut [u8], at: usize, labels: &[u32], sound: &[i32]) -> usize
@@ -85,14 +89,14 @@ fn fault_line(
 ) -> usize
     requires { ⌜ Sized c × WellFormed (netlistOf c) × Below (2 ^ c .head .inputs) (now labels) × (length (now labels) ≤ 4) ⌝ }
     requires { ⌜ (now sound ≡ spectrumOf (soundRows (netlistOf c))) × (length (now faulted) ≡ 2 ^ c .head .inputs) × (f < c .head .faults) × (at + 20 ≤ length (now out)) ⌝ }
-    ensures { λ r. ⌜ r ≡ at + length (faultLine (soundRows (netlistOf c)) (faultedRows (netlistOf c)) (now (labels .entry)) f) ⌝ }
-    ensures { λ _. ⌜ now (out .exit) ≡ placed at (faultLine (soundRows (netlistOf c)) (faultedRows (netlistOf c)) (now (labels .entry)) f) (now (out .entry)) ⌝ }
+    ensures { λ r. ⌜ r ≡ at + length (faultReportLine (soundRows (netlistOf c)) (faultedRows (netlistOf c)) (now (labels .entry)) f) ⌝ }
+    ensures { λ _. ⌜ now (out .exit) ≡ placed at (faultReportLine (soundRows (netlistOf c)) (faultedRows (netlistOf c)) (now (labels .entry)) f) (now (out .entry)) ⌝ }
 {
-    planner::fault_spectrum(c, simulation::fault_at(c, f + 1), faulted);
+    circuit::fault_spectrum(c, netlist::fault_at(c, f + 1), faulted);
     let label = first_covering(labels, sound, faulted);
     let value = faulted[label as usize];
     let numbers = [(f + 1) as i32, label as i32, value];
-    text::put_line(out, at, b"fault", &numbers)
+    writing::put_line(out, at, b"fault", &numbers)
 }
 
 fn fault_lines(
@@ -105,8 +109,8 @@ fn fault_lines(
 ) -> usize
     requires { ⌜ Sized c × WellFormed (netlistOf c) × Below (2 ^ c .head .inputs) (now labels) × (length (now labels) ≤ 4) ⌝ }
     requires { ⌜ (now sound ≡ spectrumOf (soundRows (netlistOf c))) × (length (now faulted) ≡ 2 ^ c .head .inputs) × (at + 640 ≤ length (now out)) ⌝ }
-    ensures { λ r. ⌜ r ≡ at + length (gather (faultLine (soundRows (netlistOf c)) (faultedRows (netlistOf c)) (now (labels .entry))) (c .head .faults)) ⌝ }
-    ensures { λ _. ⌜ now (out .exit) ≡ placed at (gather (faultLine (soundRows (netlistOf c)) (faultedRows (netlistOf c)) (now (labels .entry))) (c .head .faults)) (now (out .entry)) ⌝ }
+    ensures { λ r. ⌜ r ≡ at + length (gather (faultReportLine (soundRows (netlistOf c)) (faultedRows (netlistOf c)) (now (labels .entry))) (c .head .faults)) ⌝ }
+    ensures { λ _. ⌜ now (out .exit) ≡ placed at (gather (faultReportLine (soundRows (netlistOf c)) (faultedRows (netlistOf c)) (now (labels .entry))) (c .head .faults)) (now (out .entry)) ⌝ }
 {
     let count = c.head.faults;
     let mut end = at;
@@ -126,13 +130,13 @@ fn plan_lines_by(
     out: &mut [u8],
 ) -> usize
     requires { ⌜ Sized c × WellFormed (netlistOf c) × Below (2 ^ c .head .inputs) (now labels) × (length (now labels) ≤ 4) ⌝ }
-    requires { ⌜ (length (now sound) ≡ 2 ^ c .head .inputs) × (length (now faulted) ≡ 2 ^ c .head .inputs) × (1024 ≤ length (now out)) ⌝ }
+    requires { ⌜ (length (now sound) ≡ 2 ^ c .head .inputs) × (length (now faulted) ≡ 2 ^ c .head .inputs) × (reportBytes ≤ length (now out)) ⌝ }
     ensures { λ r. ⌜ r ≡ length (planLines (soundRows (netlistOf c)) (faultedRows (netlistOf c)) (now (labels .entry))) ⌝ }
     ensures { λ _. ⌜ now (out .exit) ≡ placed 0 (planLines (soundRows (netlistOf c)) (faultedRows (netlistOf c)) (now (labels .entry))) (now (out .entry)) ⌝ }
 {
-    planner::fault_spectrum(c, simulation::fault_at(c, 0), sound);
+    circuit::fault_spectrum(c, netlist::fault_at(c, 0), sound);
     let numbers = [labels.len() as i32];
-    let at = text::put_line(out, 0, b"plan", &numbers);
+    let at = writing::put_line(out, 0, b"plan", &numbers);
     let behind = label_lines(out, at, labels, sound);
     fault_lines(c, labels, sound, faulted, out, behind)
 }
@@ -140,7 +144,7 @@ fn plan_lines_by(
 // All lines of a plan.
 fn plan_lines(c: Circuit, labels: &[u32], out: &mut [u8]) -> usize
     requires { ⌜ Sized c × WellFormed (netlistOf c) × Below (2 ^ c .head .inputs) (now labels) × (length (now labels) ≤ 4) ⌝ }
-    requires { ⌜ 1024 ≤ length (now out) ⌝ }
+    requires { ⌜ reportBytes ≤ length (now out) ⌝ }
     ensures { λ r. ⌜ r ≡ length (planLines (soundRows (netlistOf c)) (faultedRows (netlistOf c)) (now (labels .entry))) ⌝ }
     ensures { λ _. ⌜ now (out .exit) ≡ placed 0 (planLines (soundRows (netlistOf c)) (faultedRows (netlistOf c)) (now (labels .entry))) (now (out .entry)) ⌝ }
 {
@@ -152,7 +156,7 @@ fn plan_lines(c: Circuit, labels: &[u32], out: &mut [u8]) -> usize
 
 // The lines of an accepted circuit: those of its plan, or its refusal.
 fn circuit_lines(c: Circuit, p: Planned, out: &mut [u8]) -> usize
-    requires { ⌜ Sized c × WellFormed (netlistOf c) × (1024 ≤ length (now out)) × (p ≡ planNumbers (verdictOf (netlistOf c))) ⌝ }
+    requires { ⌜ Sized c × WellFormed (netlistOf c) × (reportBytes ≤ length (now out)) × (p ≡ planNumbers (verdictOf (netlistOf c))) ⌝ }
     ensures { λ r. ⌜ r ≡ length (verdictLines (netlistOf c) (verdictOf (netlistOf c))) ⌝ }
     ensures { λ _. ⌜ now (out .exit) ≡ placed 0 (verdictLines (netlistOf c) (verdictOf (netlistOf c))) (now (out .entry)) ⌝ }
 {
@@ -167,7 +171,7 @@ fn circuit_lines(c: Circuit, p: Planned, out: &mut [u8]) -> usize
 
 // The lines for a text, and how many bytes they are.
 fn text_lines(text: &[u8], out: &mut [u8], work: &mut [u32]) -> usize
-    requires { ⌜ (1024 ≤ length (now out)) × (4608 ≤ length (now work)) ⌝ }
+    requires { ⌜ (reportBytes ≤ length (now out)) × (workingNumbers ≤ length (now work)) ⌝ }
     ensures { λ r. ⌜ r ≡ length (reportOf (now (text .entry))) ⌝ }
     ensures { λ _. ⌜ now (out .exit) ≡ placed 0 (reportOf (now (text .entry))) (now (out .entry)) ⌝ }
     ensures { λ _. ⌜ WorkKept (planVerdict (now (text .entry)) (length (now (work .entry)))) (now (work .entry)) (now (work .exit)) ⌝ }
@@ -188,13 +192,13 @@ pub fn report(text: &[u8], out: &mut [u8], work: &mut [u32]) -> Reported
     ensures { λ _. ⌜ now (out .exit) ≡ reportLeft (now (text .entry)) (length (now (work .entry))) (now (out .entry)) ⌝ }
     ensures { λ _. ⌜ WorkKept (reportVerdict (now (text .entry)) (length (now (out .entry))) (length (now (work .entry)))) (now (work .entry)) (now (work .exit)) ⌝ }
 {
-    if out.len() < 1024 {
+    if out.len() < REPORT_BYTES {
         return Reported {
             number: 8,
             bytes: 0,
         };
     }
-    if work.len() < 4608 {
+    if work.len() < WORKING_NUMBERS {
         return Reported {
             number: 8,
             bytes: 0,

@@ -5,12 +5,12 @@ ghost use mathlib.Core.Path.{_≡_};
 ghost use Prim.Native.Nat.{_≤_};
 ghost use lib.ListN.{length, take};
 ghost use Rattle.io.specs.Counts.{Counts};
-ghost use Rattle.planner.specs.PlanCall.{workDue};
-ghost use Rattle.report.specs.ReportCall.{bytesDue, reportOf};
+ghost use Rattle.planner.specs.PlanCall.{workingNumbers};
+ghost use Rattle.report.specs.ReportCall.{reportBytes, reportOf};
 
 // The report on the text, at the front of `out`, and how many bytes it has.
 fn written(text: &[u8], out: &mut [u8], work: &mut [u32]) -> usize
-    requires { ⌜ (bytesDue ≤ length (now out)) × (workDue ≤ length (now work)) ⌝ }
+    requires { ⌜ (reportBytes ≤ length (now out)) × (workingNumbers ≤ length (now work)) ⌝ }
     ensures { λ r. ⌜ Counts r (now (out .exit)) × (take r (now (out .exit)) ≡ reportOf (now (text .entry))) ⌝ }
 {
     let r = report::report(text, out, work);
@@ -26,7 +26,7 @@ fn print(report: &[u8], text: &[u8]) -> bool
 
 // Reads one byte more than a text may have, so that a longer input is refused by its length and never cut to a text that passes.
 fn answer(text: &mut [u8], out: &mut [u8], work: &mut [u32]) -> bool
-    requires { ⌜ (bytesDue ≤ length (now out)) × (workDue ≤ length (now work)) ⌝ }
+    requires { ⌜ (reportBytes ≤ length (now out)) × (workingNumbers ≤ length (now work)) ⌝ }
 {
     let length = io::read_full(STDIN_FILENO, text);
     let bytes = written(&text[..length], out, work);
@@ -35,7 +35,7 @@ fn answer(text: &mut [u8], out: &mut [u8], work: &mut [u32]) -> bool
 
 fn main() {
     let mut text = [0u8; 16385];
-    let mut out = [0u8; 1024];
-    let mut work = [0u32; 4608];
+    let mut out = [0u8; report::REPORT_BYTES];
+    let mut work = [0u32; planner::WORKING_NUMBERS];
     answer(&mut text, &mut out, &mut work);
 }

@@ -1,5 +1,4 @@
 -- Columns of line values, one value a row:
---   column-start, column-turn, column-ahead    a loop that makes a column: its start, one turn, what it has not reached
 --   blank-columns                              columns of zeros are those of no line
 --   input-next, gates-next                     one input's column more, one gate's column more
 --   slot-shows                                 what is read at a line's slot is what the line shows
@@ -10,41 +9,21 @@ use Prim.Native.Nat.{ℕ, zero, suc, _+_, _*_, _≤_, _<_}
 use native.Mathlib.Decide.{ℕ-discrete}
 use native.Mathlib.Omega.{arith}
 use borrow.Author.Tests.{ltb-true, ltb-false}
-use lib.Arith.{lt-of-le-ne}
 use lib.Dec.{ltb}
-use lib.ListN.{length, take, getD, set, replicate, List·getD-eq-default}
-use lib.Seq.{getD-set-same, getD-set-other, getD-append-seam, length-take-le}
+use lib.ListN.{length, take, getD, replicate, List·getD-eq-default}
+use lib.Seq.{getD-append-seam, length-take-le}
 use Rattle.integer.specs.Tab.{tab}
 use Rattle.netlist.specs.Circuits.{Sized}
 use Rattle.netlist.specs.declared.Circuit.{Circuit}
 use Rattle.statements.specs.Items.{noGate}
 use Rattle.statements.specs.declared.Fault.{Fault}
 use Rattle.statements.specs.declared.Gate.{Gate}
-use Rattle.simulation.specs.Rows.{gateValue, shown, applied, inputValues, reads, gateNext, gatesNext}
-use Rattle.simulation.specs.Steps.{shownAt, seenAs, Columned, inputRule, gateRule, Columns, inputLines, slotOf}
-use Rattle.simulation.specs.declared.Seen.{Seen}
+use Rattle.gates.specs.Gates.{gateValue, shown, applied}
+use Rattle.simulation.specs.Rows.{inputValues, reads, gateNext, gatesNext}
+use Rattle.gates.specs.Steps.{shownAt, seenAs, Columned, inputRule, gateRule}
+use Rattle.simulation.specs.Steps.{Columns, inputLines, slotOf}
+use Rattle.gates.specs.declared.Seen.{Seen}
 use Rattle.simulation.proofs.LineValues.{length-inputs, length-lines, input-more, gates-more}
-
--- A loop that makes one column.
-
-module _ (before : List Bool) (line : ℕ) (rule : ℕ → Bool) where
-  pub column-start : Columned before before line 0 rule
-  column-start = record { made = λ x h. absurd (omega arith); kept = λ i h. refl }
-
-  module _ (x : ℕ) {now : List Bool} (inv : Columned before now line x rule) where
-    pub column-turn : (z : Bool) → line * 256 + x < length now → z ≡ rule x → Columned before (set now (line * 256 + x) z) line (x + 1) rule
-    column-turn z room is =
-        record {
-          made = λ y h. pick y h (ℕ-discrete y x);
-          kept = λ i out. getD-set-other now (line * 256 + x) i z false (λ e. out (omega arith) (omega arith)) ∙ inv .kept i (λ low high. out low (omega arith));
-        }
-      where
-        pick : (y : ℕ) → y < x + 1 → Dec (y ≡ x) → shownAt (set now (line * 256 + x) z) line y ≡ rule y
-        pick y h (yes e) = rw e (getD-set-same now (line * 256 + x) z false room ∙ is)
-        pick y h (no n) = getD-set-other now (line * 256 + x) (line * 256 + y) z false (λ e. n (omega arith)) ∙ inv .made y (lt-of-le-ne (omega arith) n)
-
-    pub column-ahead : (a : ℕ) → x < 256 → shownAt now a x ≡ shownAt before a x
-    column-ahead a h = inv .kept (a * 256 + x) (λ low high. absurd (omega arith))
 
 -- What columns say of lines.
 

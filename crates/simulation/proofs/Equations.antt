@@ -16,7 +16,8 @@ use Rattle.netlist.specs.WellFormed.{WellFormed}
 use Rattle.statements.specs.Items.{noGate}
 use Rattle.statements.specs.declared.Fault.{Fault}
 use Rattle.statements.specs.declared.Gate.{Gate}
-use Rattle.simulation.specs.Rows.{gateValue, shown, applied, inputShown, inputValues, reads, gateNext, gatesNext, lineValues}
+use Rattle.gates.specs.Gates.{gateValue, shown, applied}
+use Rattle.simulation.specs.Rows.{inputShown, inputValues, reads, gateNext, gatesNext, lineValues}
 use Rattle.simulation.proofs.LineValues.{length-inputs, length-next}
 
 -- a gate's value of the lines that it reads in l

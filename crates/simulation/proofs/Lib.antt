@@ -2,6 +2,5 @@ pub mod Columns
 pub mod Equations
 pub mod LineValues
 pub mod RowBounds
-pub mod Counts
 pub mod RowValues
 pub mod Showing

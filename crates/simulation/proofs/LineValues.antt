@@ -1,22 +1,22 @@
 -- The lines of a circuit, one after the other:
 --   length-inputs, length-next, length-lines, lines-few    how many values there are
 --   input-more, gates-more    one input more, one gate more
---   fault-of      the fault of a number above 0 is read in the circuit's array
 use mathlib.Core.Path.{_≡_, refl, sym, ap, _∙_}
 use mathlib.Core.Bool.{Bool}
 use mathlib.Core.List.{List, [], _∷_, _++_}
-use Prim.Native.Nat.{ℕ, zero, suc, _+_, _-_, _≤_, _<_}
+use Prim.Native.Nat.{ℕ, _+_, _-_, _≤_, _<_}
 use native.Mathlib.Nat.{min-le-left}
 use native.Mathlib.Numerals.{add-one}
 use native.Mathlib.Omega.{arith}
 use lib.ListN.{length, take, getD, length-append, length-take}
-use lib.Seq.{take-suc, getD-take}
+use lib.Seq.{take-suc}
 use Rattle.integer.specs.Tab.{tab}
 use Rattle.integer.proofs.Tabs.{length-tab}
-use Rattle.netlist.specs.Circuits.{netlistOf, Sized, faultAt}
-use Rattle.simulation.specs.Rows.{gateValue, shown, inputShown, inputValues, reads, gateNext, gatesNext, lineValues}
+use Rattle.netlist.specs.Circuits.{netlistOf, Sized}
+use Rattle.gates.specs.Gates.{gateValue, shown}
+use Rattle.simulation.specs.Rows.{inputShown, inputValues, reads, gateNext, gatesNext, lineValues}
 use Rattle.netlist.specs.declared.Circuit.{Circuit}
-use Rattle.statements.specs.Items.{noGate, sound}
+use Rattle.statements.specs.Items.{noGate}
 use Rattle.statements.specs.declared.Fault.{Fault}
 use Rattle.statements.specs.declared.Gate.{Gate}
 
@@ -58,10 +58,3 @@ lines-few c f x s =
     let g = length-take (c .head .gates) (c .gates) in
     let m = min-le-left (c .head .gates) (length (c .gates)) in
     omega (arith, s .inputs, s .gates)
-
-pub fault-of : (c : Circuit) (number : ℕ) → (number ≡ 0 → ⊥) → number ≤ c .head .faults → getD (c .faults) (number - 1) sound ≡ faultAt (netlistOf c) number
-unfolding netlistOf
-fault-of c zero h l = absurd (h refl)
-fault-of c (suc k) h l =
-    let e : suc k - 1 ≡ k = omega arith in
-    ap (λ (n : ℕ). getD (c .faults) n sound) e ∙ sym (getD-take (c .head .faults) (c .faults) k sound (omega arith))

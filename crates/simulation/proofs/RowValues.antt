@@ -2,7 +2,7 @@
 --   weight-small, weight-widens, weight-kept    a weight of 16 bits in 32
 --   sum-room, sum-more, sum-small    a loop that adds up terms within 32,768: one turn
 --   row-of, rows-read      the sum of what the code reads is the row's value; so are all of them
---   rows-few               there are at most 256 rows
+--   row-count-few               there are at most 256 rows
 use mathlib.Core.Path.{_≡_, sym, ap, _∙_, subst}
 use mathlib.Core.Bool.{Bool}
 use mathlib.Core.List.{List}
@@ -78,5 +78,5 @@ rows-read c f n {values} s room e are =
     tab-ext n (readSum values (c .outputs) (c .head .outputs)) (rowValue (netlistOf c) f) (λ x h. row-of c f n x s room h are)
     ∙ ap (λ (k : ℕ). tab k (rowValue (netlistOf c) f)) e
 
-pub rows-few : (c : Circuit) → Sized c → 2 ^ c .head .inputs ≤ 256
-rows-few c s = pow-mono (s .inputs)
+pub row-count-few : (c : Circuit) → Sized c → 2 ^ c .head .inputs ≤ 256
+row-count-few c s = pow-mono (s .inputs)

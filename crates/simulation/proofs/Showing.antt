@@ -8,11 +8,11 @@ use mathlib.Core.Logic.{inl, inr}
 use Prim.Native.Nat.{ℕ, _≤_}
 use native.Mathlib.Omega.{arith}
 use borrow.Author.Tests.{eq-eqb, ne-eqb}
-use Rattle.netlist.specs.WellFormed.{Above, FaultRight}
-use Rattle.netlist.proofs.Acceptance.{free-line}
+use Rattle.sections.specs.FaultLines.{Above, FaultRight}
+use Rattle.sections.proofs.FaultsRight.{free-line}
 use Rattle.statements.specs.Items.{sound}
 use Rattle.statements.specs.declared.Fault.{Fault}
-use Rattle.simulation.specs.Rows.{stuckOr, shown}
+use Rattle.gates.specs.Gates.{stuckOr, shown}
 
 module _ (f : Fault) (v : Bool) where
   first-shows : shown f (f .first .line) v ≡ f .first .value

@@ -1,13 +1,9 @@
 -- What private functions leave of line values: a column of 256 values for each of 58 lines, one value a row.
---   shownAt              what a line shows on a row
---   seenAs               a value seen through a fault, by what is shown of 1 and of 0
---   Columned             one column made by a rule, and everything else as it was
---   inputRule, gateRule  the rule of an input's column, and of a gate's
 --   Columns              every line on the first rows, by the row's line values
 --   slotOf               where a line is read in them: no circuit has a line 57
 --   readTerm, readSum    an output's term and a row's value, as they are read there
-use Prim.Native.Nat.{ℕ, _+_, _*_, _≤_, _<_}
-use mathlib.Core.Bool.{Bool, false, cond}
+use Prim.Native.Nat.{ℕ, _<_}
+use mathlib.Core.Bool.{Bool, cond}
 use mathlib.Core.List.{List}
 use mathlib.Core.Path.{_≡_}
 use lib.Dec.{ltb}
@@ -16,27 +12,9 @@ use lib.ListN.{getD}
 use Rattle.integer.specs.Sum.{sumTo}
 use Rattle.statements.specs.Items.{noOutput}
 use Rattle.statements.specs.declared.Fault.{Fault}
-use Rattle.statements.specs.declared.Kind.{Kind}
 use Rattle.statements.specs.declared.Output.{Output}
-use Rattle.simulation.specs.Rows.{gateValue, applied, inputValues, reads, weighed}
-use Rattle.simulation.specs.declared.Seen.{Seen}
-
-abbrev pub shownAt : List Bool → ℕ → ℕ → Bool
-shownAt values line x = getD values (line * 256 + x) false
-
-abbrev pub seenAs : Seen → Bool → Bool
-seenAs s v = cond v (s .one) (s .zero)
-
--- the first n values of the line's column are new
-pub record Columned (before after : List Bool) (line n : ℕ) (rule : ℕ → Bool) : Type 0 where
-  pub made : (x : ℕ) → x < n → shownAt after line x ≡ rule x
-  pub kept : (i : ℕ) → (line * 256 ≤ i → i < line * 256 + n → ⊥) → getD after i false ≡ getD before i false
-
-abbrev pub inputRule : Seen → ℕ → ℕ → Bool
-inputRule s input x = seenAs s (applied x input)
-
-abbrev pub gateRule : List Bool → Seen → Kind → ℕ → ℕ → ℕ → Bool
-gateRule values s kind a b x = seenAs s (gateValue kind (shownAt values a x) (shownAt values b x))
+use Rattle.simulation.specs.Rows.{inputValues, reads, weighed}
+use Rattle.gates.specs.Steps.{shownAt}
 
 -- line values of the row x are `lines x`; a line behind the last shows 0
 pub record Columns (values : List Bool) (n : ℕ) (lines : ℕ → List Bool) : Type 0 where

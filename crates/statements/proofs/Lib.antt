@@ -1,2 +1,1 @@
-pub mod KindWords
-pub mod LineTests
+pub mod SecondLines

@@ -1,101 +1,33 @@
 -- What each line of the circuit text says, and the number by which a line is refused (document 01, "The circuit text", "What is returned"):
 --   "within a line 2, 3, then 4, 5, 6"
 -- A field that is no number, or is not there, counts as 0 where its value is asked; a line with a bad number is refused before that matters.
-use Prim.Native.Nat.{ℕ, zero, suc, _-_}
-use mathlib.Core.Bool.{Bool, true, false, cond, _&&_, _||_}
-use mathlib.Core.List.{List, [], _∷_}
+use Prim.Native.Nat.{ℕ, suc, _-_}
+use mathlib.Core.Bool.{Bool, _&&_, _||_}
+use mathlib.Core.List.{List}
 use lib.Dec.{eqb, leb, ltb}
 use lib.IntN.{pos}
-use Rattle.text.specs.Text.{fieldOf, fieldCount, sameBytes, numberOf}
-use Rattle.text.specs.declared.Number.{Number}
-use Rattle.text.specs.declared.Number.the-variants.{Value, Bad}
+use Rattle.text.specs.Text.{bytesOf, fieldOf, fieldCount}
 use Rattle.statements.specs.declared.Fault.{Fault}
 use Rattle.statements.specs.declared.Gate.{Gate}
 use Rattle.statements.specs.declared.Head.{Head}
-use Rattle.statements.specs.declared.Kind.{Kind}
-use Rattle.statements.specs.declared.Kind.the-variants.{And, Or, Nand, Nor, Xor, Xnor, Not}
+use Rattle.kinds.specs.declared.Kind.{Kind}
+use Rattle.kinds.specs.declared.Kind.the-variants.{And, Or, Nand, Nor, Xor, Xnor, Not}
 use Rattle.statements.specs.declared.Output.{Output}
-use Rattle.statements.specs.declared.Stuck.{Stuck}
+use Rattle.statements.specs.declared.Pair.{Pair}
+use Rattle.fields.specs.Fields.{fits, inRange, isLine, unless, valueAt}
+use Rattle.kinds.specs.Kinds.{isKind, kindOf}
 
--- the words, as bytes
 abbrev pub circuitWord : List ℕ
-circuitWord = 99 ∷ 105 ∷ 114 ∷ 99 ∷ 117 ∷ 105 ∷ 116 ∷ []
+circuitWord = bytesOf "circuit"
 
 abbrev pub gateWord : List ℕ
-gateWord = 103 ∷ 97 ∷ 116 ∷ 101 ∷ []
+gateWord = bytesOf "gate"
 
 abbrev pub outputWord : List ℕ
-outputWord = 111 ∷ 117 ∷ 116 ∷ 112 ∷ 117 ∷ 116 ∷ []
+outputWord = bytesOf "output"
 
 abbrev pub faultWord : List ℕ
-faultWord = 102 ∷ 97 ∷ 117 ∷ 108 ∷ 116 ∷ []
-
-abbrev pub andWord : List ℕ
-andWord = 97 ∷ 110 ∷ 100 ∷ []
-
-abbrev pub orWord : List ℕ
-orWord = 111 ∷ 114 ∷ []
-
-abbrev pub nandWord : List ℕ
-nandWord = 110 ∷ 97 ∷ 110 ∷ 100 ∷ []
-
-abbrev pub norWord : List ℕ
-norWord = 110 ∷ 111 ∷ 114 ∷ []
-
-abbrev pub xorWord : List ℕ
-xorWord = 120 ∷ 111 ∷ 114 ∷ []
-
-abbrev pub xnorWord : List ℕ
-xnorWord = 120 ∷ 110 ∷ 111 ∷ 114 ∷ []
-
-abbrev pub notWord : List ℕ
-notWord = 110 ∷ 111 ∷ 116 ∷ []
-
--- the word that a kind is written as
-unfoldable pub kindWord : Kind → List ℕ
-kindWord And = andWord
-kindWord Or = orWord
-kindWord Nand = nandWord
-kindWord Nor = norWord
-kindWord Xor = xorWord
-kindWord Xnor = xnorWord
-kindWord Not = notWord
-
-abbrev pub isNumber : Number → Bool
-isNumber (Value v) = true
-isNumber Bad = false
-
-abbrev pub valueOf : Number → ℕ
-valueOf (Value v) = v
-valueOf Bad = 0
-
-unfoldable pub valueAt : List ℕ → ℕ → ℕ
-valueAt l k = valueOf (numberOf (fieldOf l k))
-
--- the `count` fields from k on are numbers
-unfoldable pub numbersFrom : List ℕ → ℕ → ℕ → Bool
-numbersFrom l k zero = true
-numbersFrom l k (suc count) = isNumber (numberOf (fieldOf l k)) && numbersFrom l (suc k) count
-
--- a line of that word with that many fields, numbers from field `from` on
-unfoldable pub isLine : List ℕ → List ℕ → ℕ → ℕ → Bool
-isLine l word from fields = (eqb (fieldCount l) fields && sameBytes (fieldOf l 0) word) && numbersFrom l from (fields - from)
-
-unfoldable pub inRange : ℕ → ℕ → ℕ → Bool
-inRange v low high = leb low v && leb v high
-
--- field k is a number from low to high
-unfoldable pub fits : List ℕ → ℕ → ℕ → ℕ → Bool
-fits l k low high = inRange (valueAt l k) low high
-
--- the number of a test that fails, else what comes next
-abbrev pub unless : Bool → ℕ → ℕ → ℕ
-unless true number next = next
-unless false number next = number
-
--- "within a line 2, 3, then 4, 5, 6"; 0 where all tests pass
-unfoldable pub refusalOf : Bool → Bool → Bool → Bool → Bool → ℕ
-refusalOf formed fit below exist rise = unless formed 2 (unless fit 3 (unless below 4 (unless exist 5 (unless rise 6 0))))
+faultWord = bytesOf "fault"
 
 -- "`circuit,N,G,M,Q,K`: N inputs (1 to 8), G gates (0 to 48), M outputs (1 to 4), Q faults (1 to 32), cap K (1 to 4)"
 unfoldable pub isHead : List ℕ → Bool
@@ -105,23 +37,10 @@ unfoldable pub headFits : List ℕ → Bool
 headFits l = (((fits l 1 1 8 && fits l 2 0 48) && fits l 3 1 4) && fits l 4 1 32) && fits l 5 1 4
 
 unfoldable pub headRefusal : List ℕ → ℕ
-headRefusal l = refusalOf (isHead l) (headFits l) true true true
+headRefusal l = unless (isHead l) 2 (unless (headFits l) 3 0)
 
 unfoldable pub headOf : List ℕ → Head
 headOf l = record { inputs = valueAt l 1; gates = valueAt l 2; outputs = valueAt l 3; faults = valueAt l 4; cap = valueAt l 5 }
-
--- "KIND is `and`, `or`, `nand`, `nor`, `xor`, `xnor` or `not`"; where it is none of them it counts as `not`
-unfoldable pub isKind : List ℕ → Bool
-isKind w = sameBytes w andWord || sameBytes w orWord || sameBytes w nandWord || sameBytes w norWord || sameBytes w xorWord || sameBytes w xnorWord || sameBytes w notWord
-
-unfoldable pub kindOf : List ℕ → Kind
-kindOf w =
-    cond (sameBytes w andWord) And
-    (cond (sameBytes w orWord) Or
-    (cond (sameBytes w nandWord) Nand
-    (cond (sameBytes w norWord) Nor
-    (cond (sameBytes w xorWord) Xor
-    (cond (sameBytes w xnorWord) Xnor Not)))))
 
 -- "gate,KIND,A,B"
 unfoldable pub isGate : List ℕ → Bool
@@ -145,7 +64,7 @@ unfoldable pub readsBelow : ℕ → List ℕ → Bool
 readsBelow own l = ltb (valueAt l 2) own && ltb (valueAt l 3) own
 
 unfoldable pub gateRefusal : ℕ → List ℕ → ℕ
-gateRefusal own l = refusalOf (isGate l) (gateFits l) (readsBelow own l) true true
+gateRefusal own l = unless (isGate l) 2 (unless (gateFits l) 3 (unless (readsBelow own l) 4 0))
 
 unfoldable pub gateOf : List ℕ → Gate
 gateOf l = record { kind = kindOf (fieldOf l 1); a = valueAt l 2; b = valueAt l 3 }
@@ -159,7 +78,7 @@ outputFits l = fits l 1 1 56 && fits l 2 1 15
 
 -- 5: "output or fault names a line above N+G", which is `top`
 unfoldable pub outputRefusal : ℕ → List ℕ → ℕ
-outputRefusal top l = refusalOf (isOutput l) (outputFits l) true (leb (valueAt l 1) top) true
+outputRefusal top l = unless (isOutput l) 2 (unless (outputFits l) 3 (unless (leb (valueAt l 1) top) 5 0))
 
 unfoldable pub outputOf : List ℕ → Output
 outputOf l = record { line = valueAt l 1; weight = pos (valueAt l 2) }
@@ -189,11 +108,11 @@ unfoldable pub linesRise : List ℕ → Bool
 linesRise l = risesAt l 3 && risesAt l 5
 
 unfoldable pub faultRefusal : ℕ → List ℕ → ℕ
-faultRefusal top l = refusalOf (isFault l) (faultFits l) true (linesExist top l) (linesRise l)
+faultRefusal top l = unless (isFault l) 2 (unless (faultFits l) 3 (unless (linesExist top l) 5 (unless (linesRise l) 6 0)))
 
 -- a pair that is not there names line 0
-unfoldable pub stuckAt : List ℕ → ℕ → Stuck
-stuckAt l k = record { line = valueAt l k; value = eqb (valueAt l (suc k)) 1 }
+unfoldable pub pairAt : List ℕ → ℕ → Pair
+pairAt l k = record { line = valueAt l k; value = eqb (valueAt l (suc k)) 1 }
 
 unfoldable pub faultOf : List ℕ → Fault
-faultOf l = record { first = stuckAt l 1; second = stuckAt l 3; third = stuckAt l 5 }
+faultOf l = record { first = pairAt l 1; second = pairAt l 3; third = pairAt l 5 }

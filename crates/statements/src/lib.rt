@@ -2,21 +2,12 @@
 //
 // A line's numbers are read once, all its tests are made on them, and the first that fails gives the number. What a line says counts only where
 // all pass.
-use text::Number;
+use fields::number_unless;
+use kinds::Kind;
 ghost use mathlib.Core.Path.{_≡_};
 ghost use Prim.Native.Nat.{suc, _-_, _≤_};
-ghost use Rattle.statements.specs.Lines.{isNumber, valueAt, numbersFrom, isLine, inRange, refusalOf, headRefusal, headOf, isKind, kindOf, secondFits, gateRefusal, gateOf, outputRefusal, outputOf, isFault, pairInRange, faultRefusal, faultOf};
-ghost use Rattle.text.specs.Text.{numberOf};
-
-pub enum Kind {
-    And,
-    Or,
-    Nand,
-    Nor,
-    Xor,
-    Xnor,
-    Not,
-}
+ghost use Rattle.fields.specs.Fields.{valueAt};
+ghost use Rattle.statements.specs.Lines.{headRefusal, headOf, secondFits, gateRefusal, gateOf, outputRefusal, outputOf, isFault, pairInRange, faultRefusal, faultOf};
 
 // A gate and the lines that it reads; `b` is 0 for `not`.
 pub struct Gate {
@@ -32,16 +23,16 @@ pub struct Output {
 }
 
 // A stuck line; line 0 is none.
-pub struct Stuck {
+pub struct Pair {
     pub line: u16,
     pub value: bool,
 }
 
 // One to three stuck lines, which hold together.
 pub struct Fault {
-    pub first: Stuck,
-    pub second: Stuck,
-    pub third: Stuck,
+    pub first: Pair,
+    pub second: Pair,
+    pub third: Pair,
 }
 
 // The numbers of the first line.
@@ -74,98 +65,27 @@ pub struct FaultLine {
 }
 
 // LINE,VALUE
-struct Pair {
+struct PairFields {
     line: u16,
     value: u16,
-}
-
-fn is_number(s: &[u8]) -> bool
-    ensures { λ r. ⌜ r ≡ isNumber (numberOf (now (s .entry))) ⌝ }
-{
-    match text::decimal(s) {
-        Number::Value(_) => true,
-        Number::Bad => false,
-    }
-}
-
-// The number in field k, 0 where there is none. At most 9,999.
-fn value_at(line: &[u8], k: usize) -> u16
-    ensures { λ r. ⌜ (r ≡ valueAt (now (line .entry)) k) × (r ≤ 9999) ⌝ }
-{
-    match text::decimal(text::field(line, k)) {
-        Number::Value(v) => v,
-        Number::Bad => 0,
-    }
-}
-
-// Whether the fields from `from` on, those before `to`, are numbers.
-fn numbers(line: &[u8], from: usize, to: usize) -> bool
-    ensures { λ r. ⌜ r ≡ numbersFrom (now (line .entry)) from (to - from) ⌝ }
-{
-    let mut k = from;
-    while k < to {
-        if !is_number(text::field(line, k)) {
-            return false;
-        }
-        k += 1;
-    }
-    true
-}
-
-// Whether it is a line of that word with so many fields, numbers from field `from` on.
-fn is_line(line: &[u8], word: &[u8], from: usize, fields: usize) -> bool
-    ensures { λ r. ⌜ r ≡ isLine (now (line .entry)) (now (word .entry)) from fields ⌝ }
-{
-    if text::fields(line) != fields {
-        return false;
-    }
-    text::same(text::field(line, 0), word) & numbers(line, from, fields)
-}
-
-fn in_range(v: u16, low: u16, high: u16) -> bool
-    ensures { λ r. ⌜ r ≡ inRange v low high ⌝ }
-{
-    (low <= v) & (v <= high)
-}
-
-// The number of the first test that fails.
-fn refusal(formed: bool, fit: bool, below: bool, exist: bool, rise: bool) -> u32
-    ensures { λ r. ⌜ r ≡ refusalOf formed fit below exist rise ⌝ }
-{
-    if !formed {
-        return 2;
-    }
-    if !fit {
-        return 3;
-    }
-    if !below {
-        return 4;
-    }
-    if !exist {
-        return 5;
-    }
-    if !rise {
-        return 6;
-    }
-    0
 }
 
 pub fn head_line(line: &[u8]) -> HeadLine
     ensures { λ r. ⌜ (r .number ≡ headRefusal (now (line .entry))) × (r .head ≡ headOf (now (line .entry))) ⌝ }
 {
-    let n = value_at(line, 1);
-    let g = value_at(line, 2);
-    let m = value_at(line, 3);
-    let q = value_at(line, 4);
-    let k = value_at(line, 5);
-    let formed = is_line(line, b"circuit", 1, 6);
-    let fit = in_range(n, 1, 8)
-        & in_range(g, 0, 48)
-        & in_range(m, 1, 4)
-        & in_range(q, 1, 32)
-        & in_range(k, 1, 4);
+    let n = fields::value_at(line, 1);
+    let g = fields::value_at(line, 2);
+    let m = fields::value_at(line, 3);
+    let q = fields::value_at(line, 4);
+    let k = fields::value_at(line, 5);
+    let formed = fields::is_line(line, b"circuit", 1, 6);
+    let fit = fields::in_range(n, 1, 8)
+        & fields::in_range(g, 0, 48)
+        & fields::in_range(m, 1, 4)
+        & fields::in_range(q, 1, 32)
+        & fields::in_range(k, 1, 4);
     HeadLine {
-        number: refusal(formed, fit, true, true, true),
+        number: number_unless(formed, 2, number_unless(fit, 3, 0)),
         head: Head {
             inputs: n as usize,
             gates: g as usize,
@@ -176,48 +96,12 @@ pub fn head_line(line: &[u8]) -> HeadLine
     }
 }
 
-fn is_kind(word: &[u8]) -> bool
-    ensures { λ r. ⌜ r ≡ isKind (now (word .entry)) ⌝ }
-{
-    text::same(word, b"and")
-        | text::same(word, b"or")
-        | text::same(word, b"nand")
-        | text::same(word, b"nor")
-        | text::same(word, b"xor")
-        | text::same(word, b"xnor")
-        | text::same(word, b"not")
-}
-
-fn kind_of(word: &[u8]) -> Kind
-    ensures { λ r. ⌜ r ≡ kindOf (now (word .entry)) ⌝ }
-{
-    if text::same(word, b"and") {
-        return Kind::And;
-    }
-    if text::same(word, b"or") {
-        return Kind::Or;
-    }
-    if text::same(word, b"nand") {
-        return Kind::Nand;
-    }
-    if text::same(word, b"nor") {
-        return Kind::Nor;
-    }
-    if text::same(word, b"xor") {
-        return Kind::Xor;
-    }
-    if text::same(word, b"xnor") {
-        return Kind::Xnor;
-    }
-    Kind::Not
-}
-
 fn second_in_range(kind: Kind, b: u16) -> bool
     ensures { λ r. ⌜ r ≡ secondFits kind b ⌝ }
 {
     match kind {
         Kind::Not => b == 0,
-        _ => in_range(b, 1, 56),
+        _ => fields::in_range(b, 1, 56),
     }
 }
 
@@ -225,14 +109,14 @@ fn second_in_range(kind: Kind, b: u16) -> bool
 pub fn gate_line(own: usize, line: &[u8]) -> GateLine
     ensures { λ r. ⌜ (r .number ≡ gateRefusal own (now (line .entry))) × (r .gate ≡ gateOf (now (line .entry))) ⌝ }
 {
-    let kind = kind_of(text::field(line, 1));
-    let a = value_at(line, 2);
-    let b = value_at(line, 3);
-    let formed = is_line(line, b"gate", 2, 4) & is_kind(text::field(line, 1));
-    let fit = in_range(a, 1, 56) & second_in_range(kind, b);
+    let kind = kinds::kind_of(text::field(line, 1));
+    let a = fields::value_at(line, 2);
+    let b = fields::value_at(line, 3);
+    let formed = fields::is_line(line, b"gate", 2, 4) & kinds::is_kind(text::field(line, 1));
+    let fit = fields::in_range(a, 1, 56) & second_in_range(kind, b);
     let below = ((a as usize) < own) & ((b as usize) < own);
     GateLine {
-        number: refusal(formed, fit, below, true, true),
+        number: number_unless(formed, 2, number_unless(fit, 3, number_unless(below, 4, 0))),
         gate: Gate { kind, a, b },
     }
 }
@@ -241,13 +125,13 @@ pub fn gate_line(own: usize, line: &[u8]) -> GateLine
 pub fn output_line(top: usize, line: &[u8]) -> OutputLine
     ensures { λ r. ⌜ (r .number ≡ outputRefusal top (now (line .entry))) × (r .output ≡ outputOf (now (line .entry))) ⌝ }
 {
-    let n = value_at(line, 1);
-    let w = value_at(line, 2);
-    let formed = is_line(line, b"output", 1, 3);
-    let fit = in_range(n, 1, 56) & in_range(w, 1, 15);
+    let n = fields::value_at(line, 1);
+    let w = fields::value_at(line, 2);
+    let formed = fields::is_line(line, b"output", 1, 3);
+    let fit = fields::in_range(n, 1, 56) & fields::in_range(w, 1, 15);
     let exist = (n as usize) <= top;
     OutputLine {
-        number: refusal(formed, fit, true, exist, true),
+        number: number_unless(formed, 2, number_unless(fit, 3, number_unless(exist, 5, 0))),
         output: Output {
             line: n,
             weight: w as i16,
@@ -262,23 +146,23 @@ fn is_fault(line: &[u8]) -> bool
     if !((fields == 3) | (fields == 5) | (fields == 7)) {
         return false;
     }
-    is_line(line, b"fault", 1, fields)
+    fields::is_line(line, b"fault", 1, fields)
 }
 
-fn pair_at(line: &[u8], k: usize) -> Pair
+fn pair_at(line: &[u8], k: usize) -> PairFields
     requires { ⌜ k ≤ 5 ⌝ }
     ensures { λ r. ⌜ (r .line ≡ valueAt (now (line .entry)) k) × (r .value ≡ valueAt (now (line .entry)) (suc k)) ⌝ }
 {
-    Pair {
-        line: value_at(line, k),
-        value: value_at(line, k + 1),
+    PairFields {
+        line: fields::value_at(line, k),
+        value: fields::value_at(line, k + 1),
     }
 }
 
-fn pair_in_range(absent: bool, p: Pair) -> bool
+fn pair_in_range(absent: bool, p: PairFields) -> bool
     ensures { λ r. ⌜ r ≡ pairInRange absent (p .line) (p .value) ⌝ }
 {
-    absent | (in_range(p.line, 1, 56) & in_range(p.value, 0, 1))
+    absent | (fields::in_range(p.line, 1, 56) & fields::in_range(p.value, 0, 1))
 }
 
 pub fn fault_line(top: usize, line: &[u8]) -> FaultLine
@@ -297,17 +181,21 @@ pub fn fault_line(top: usize, line: &[u8]) -> FaultLine
         & ((c.line as usize) <= top);
     let rise = ((fields <= 3) | (a.line < b.line)) & ((fields <= 5) | (b.line < c.line));
     FaultLine {
-        number: refusal(formed, fit, true, exist, rise),
+        number: number_unless(
+            formed,
+            2,
+            number_unless(fit, 3, number_unless(exist, 5, number_unless(rise, 6, 0))),
+        ),
         fault: Fault {
-            first: Stuck {
+            first: Pair {
                 line: a.line,
                 value: a.value == 1,
             },
-            second: Stuck {
+            second: Pair {
                 line: b.line,
                 value: b.value == 1,
             },
-            third: Stuck {
+            third: Pair {
                 line: c.line,
                 value: c.value == 1,
             },

@@ -19,7 +19,7 @@ use lib.ListN.{length, take, drop, getD, length-drop, drop-of-length-le}
 use lib.Seq.{drop-cons, drop-drop, length-take-le}
 use lib.Dec.{eqb}
 use borrow.Author.Tests.{eq-eqb, ne-eqb, lt-ltb, le-ltb}
-use Rattle.text.specs.Text.{comma, indexOf, before, after, has, fieldOf, fieldStart, fieldCount}
+use Rattle.text.specs.Text.{comma, indexOf, before, after, hasByte, fieldOf, fieldStart, fieldCount}
 
 -- the list from i is the element at i and the list from i + 1
 pub step : (l : List ℕ) (i : ℕ) → i < length l → drop i l ≡ getD l i 0 ∷ drop (i + 1) l
@@ -64,10 +64,10 @@ module _ (b : ℕ) (text : List ℕ) (at e : ℕ) (cut : e ≡ at + indexOf b (d
   pub cut-at-end : length text ≤ e → length (drop at text) ≤ indexOf b (drop at text)
   cut-at-end h = omega (arith, length-drop at text)
 
-  pub cut-has : e < length text → has b (drop at text) ≡ true
+  pub cut-has : e < length text → hasByte b (drop at text) ≡ true
   cut-has h = lt-ltb (indexOf b (drop at text)) (length (drop at text)) (cut-inside h)
 
-  pub cut-none : length text ≤ e → has b (drop at text) ≡ false
+  pub cut-none : length text ≤ e → hasByte b (drop at text) ≡ false
   cut-none h = le-ltb (indexOf b (drop at text)) (length (drop at text)) (cut-at-end h)
 
 pub after-none : (b : ℕ) (l : List ℕ) → length l ≤ indexOf b l → after b l ≡ []

@@ -2,6 +2,8 @@
 --   "Fields stand in fixed order, parted by commas, with no quoting. A line ends in one byte 0A hexadecimal."
 --   "The words are compared byte for byte."
 --   "A number is 1 to 4 decimal digits, with no leading zero except in `0` itself."
+use Prim.Native.Char.{code}
+use Prim.Native.String.{String, [] as none, _∷_ as _then_}
 use Prim.Native.Nat.{ℕ, zero, suc, _+_, _-_, _*_}
 use mathlib.Core.Bool.{Bool, true, false, not, cond, _&&_, _||_}
 use mathlib.Core.List.{List, [], _∷_}
@@ -10,11 +12,20 @@ use lib.Dec.{eqb, leb, ltb}
 use Rattle.text.specs.declared.Number.{Number}
 use Rattle.text.specs.declared.Number.the-variants.{Value, Bad}
 
+-- the bytes of a word of ASCII
+abbrev pub bytesOf : String → List ℕ
+bytesOf none = []
+bytesOf (c then s) = code c ∷ bytesOf s
+
 abbrev pub comma : ℕ
 comma = 44
 
 abbrev pub lineEnd : ℕ
 lineEnd = 10
+
+-- "text over 16,384 bytes" is refused by 1
+abbrev pub textBytes : ℕ
+textBytes = 16384
 
 -- the index of the first b, and the length where there is none
 unfoldable pub indexOf : ℕ → List ℕ → ℕ
@@ -29,8 +40,8 @@ unfoldable pub after : ℕ → List ℕ → List ℕ
 after b l = drop (suc (indexOf b l)) l
 
 -- some b is in the list
-abbrev pub has : ℕ → List ℕ → Bool
-has b l = ltb (indexOf b l) (length l)
+abbrev pub hasByte : ℕ → List ℕ → Bool
+hasByte b l = ltb (indexOf b l) (length l)
 
 -- "The field handed back is that part of the lent text between two commas or ends; where no such field exists it is the empty part at the
 -- text's end." Its bytes, and the index at which it starts.
@@ -40,7 +51,7 @@ fieldOf l (suc k) = fieldOf (after comma l) k
 
 unfoldable pub fieldStart : List ℕ → ℕ → ℕ
 fieldStart l zero = zero
-fieldStart l (suc k) = cond (has comma l) (suc (indexOf comma l) + fieldStart (after comma l) k) (length l)
+fieldStart l (suc k) = cond (hasByte comma l) (suc (indexOf comma l) + fieldStart (after comma l) k) (length l)
 
 -- a pointer n bytes further: a block and an offset in it
 abbrev pub further : ℕ → ℕ × ℕ → ℕ × ℕ

@@ -1,15 +1,12 @@
-// Fields, words and numbers of a text, read and written. What a line means is the business of other crates.
-mod writing;
-
-pub use writing::put;
-pub use writing::put_decimal;
-pub use writing::put_integer;
-pub use writing::put_line;
+// Fields, words and numbers of a text, as they are read. What a line means is the business of other crates.
 ghost use mathlib.Core.Path.{_≡_};
 ghost use Prim.Native.Nat.{_+_};
 ghost use denote.Ref.{ptr};
 ghost use lib.ListN.{length, drop};
 ghost use Rattle.text.specs.Text.{indexOf, fieldOf, fieldStart, further, fieldCount, sameBytes, numberOf};
+
+// A text has at most so many bytes.
+pub const TEXT_BYTES: usize = 16384;
 
 // What a field says as a number.
 pub enum Number {
@@ -44,7 +41,7 @@ pub fn fields(text: &[u8]) -> usize
     let mut count: usize = 1;
     let mut i: usize = 0;
     while i < text.len() {
-        if text[i] == 44 {
+        if text[i] == b',' {
             count += 1;
         }
         i += 1;
@@ -59,7 +56,7 @@ pub fn locate(text: &[u8], k: usize) -> Span
     let mut start: usize = 0;
     let mut i: usize = 0;
     while i < k {
-        let comma = find(text, start, 44);
+        let comma = find(text, start, b',');
         if text.len() <= comma {
             let end = text.len();
             return Span { start: end, end };
@@ -69,7 +66,7 @@ pub fn locate(text: &[u8], k: usize) -> Span
     }
     Span {
         start,
-        end: find(text, start, 44),
+        end: find(text, start, b','),
     }
 }
 
@@ -114,7 +111,7 @@ pub fn decimal(s: &[u8]) -> Number
         return Number::Bad;
     }
     if 1 < n {
-        if s[0] == 48 {
+        if s[0] == b'0' {
             return Number::Bad;
         }
     }
@@ -122,13 +119,13 @@ pub fn decimal(s: &[u8]) -> Number
     let mut i: usize = 0;
     while i < n {
         let x = s[i];
-        if x < 48 {
+        if x < b'0' {
             return Number::Bad;
         }
-        if 57 < x {
+        if b'9' < x {
             return Number::Bad;
         }
-        v = v * 10 + ((x - 48) as u16);
+        v = v * 10 + ((x - b'0') as u16);
         i += 1;
     }
     Number::Value(v)

@@ -1,7 +1,7 @@
 // The calls that write a list into a lent result, and the call for one coefficient.
-use crate::heads::Call;
-use crate::lines;
-use walsh::Answer;
+use cases::heads::Call;
+use cases::lines;
+use screen::Answer;
 use walsh::Found;
 
 pub fn coefficient_holds(list: &[i32], label: u32, due: &[u8]) -> bool {
@@ -27,7 +27,7 @@ fn answer(
         Call::Rows => walsh::rows(list, out),
         Call::Stuck => faults::stuck(list, first, second, out),
         Call::Opened => faults::opened(list, first, out),
-        _ => planner::circuit_spectrum(text, fault, out),
+        _ => circuit::circuit_spectrum(text, fault, out),
     }
 }
 

@@ -18,14 +18,11 @@
 //     field                      number               start   the field
 //
 // A case whose head is damaged or that is cut differs.
-mod heads;
-mod lines;
 mod lists;
-mod numbers;
 mod texts;
 
-use heads::Call;
-use heads::Head;
+use cases::heads::Call;
+use cases::heads::CaseHead;
 use libc::STDIN_FILENO;
 use libc::STDOUT_FILENO;
 ghost use Prim.Native.Nat.{_≤_};
@@ -56,7 +53,7 @@ fn argument(arguments: &[u32], i: usize) -> u32 {
 
 // Whether the call's answer is what is due.
 fn call_holds(
-    h: Head,
+    h: CaseHead,
     text: &[u8],
     list: &[i32],
     first: &[u32],
@@ -81,7 +78,7 @@ fn call_holds(
 }
 
 fn arguments_hold(
-    h: Head,
+    h: CaseHead,
     text: &[u8],
     list: &[i32],
     firsts: &[u8],
@@ -90,17 +87,17 @@ fn arguments_hold(
     second: &mut [u32],
     due: &[u8],
 ) -> bool {
-    if !numbers::naturals(firsts, first) {
+    if !cases::numbers::naturals(firsts, first) {
         return false;
     }
-    if !numbers::naturals(seconds, second) {
+    if !cases::numbers::naturals(seconds, second) {
         return false;
     }
     call_holds(h, text, list, first, second, due)
 }
 
 // The arguments and what is due are in `rest`.
-fn rest_holds(h: Head, text: &[u8], list: &[i32], rest: &[u8]) -> bool {
+fn rest_holds(h: CaseHead, text: &[u8], list: &[i32], rest: &[u8]) -> bool {
     let a = h.first;
     let b = h.second;
     if 4 < a {
@@ -128,15 +125,15 @@ fn rest_holds(h: Head, text: &[u8], list: &[i32], rest: &[u8]) -> bool {
     )
 }
 
-fn list_holds(h: Head, text: &[u8], numbers: &[u8], list: &mut [i32], rest: &[u8]) -> bool {
-    if !numbers::integers(numbers, list) {
+fn list_holds(h: CaseHead, text: &[u8], numbers: &[u8], list: &mut [i32], rest: &[u8]) -> bool {
+    if !cases::numbers::integers(numbers, list) {
         return false;
     }
     rest_holds(h, text, list, rest)
 }
 
 // Everything behind the text is in `rest`.
-fn numbers_hold(h: Head, text: &[u8], rest: &[u8]) -> bool {
+fn numbers_hold(h: CaseHead, text: &[u8], rest: &[u8]) -> bool {
     let l = h.list;
     if 2056 < l {
         return false;
@@ -149,9 +146,9 @@ fn numbers_hold(h: Head, text: &[u8], rest: &[u8]) -> bool {
     list_holds(h, text, &rest[..at], &mut list[..l], &rest[at..])
 }
 
-fn case_holds(h: Head, case: &[u8]) -> bool {
+fn case_holds(h: CaseHead, case: &[u8]) -> bool {
     let t = h.text;
-    if !heads::is_right(h) {
+    if !cases::heads::is_right(h) {
         return false;
     }
     if case.len() < t {
@@ -162,7 +159,7 @@ fn case_holds(h: Head, case: &[u8]) -> bool {
 
 // Reads the case that the head says, and tries it.
 fn next_holds(head: &[u8; 54], space: &mut [u8]) -> bool {
-    let h = heads::read(head);
+    let h = cases::heads::read(head);
     let size = h.text + 12 * (h.list + h.first + h.second) + h.due;
     if space.len() < size {
         return false;

@@ -1,5 +1,5 @@
 // The calls on a text that write no list: plan, report, reading, pair, field.
-use crate::lines;
+use cases::lines;
 use planner::Planned;
 use reading::Reading;
 use report::Reported;
@@ -44,7 +44,7 @@ fn plan_numbers(p: Planned) -> [i32; 7] {
 // How many working numbers may have changed: those of a plan, 13 and 14.
 fn free_of(number: u32) -> usize {
     match number {
-        0 | 13 | 14 => 4608,
+        0 | 13 | 14 => planner::WORKING_NUMBERS,
         _ => 0,
     }
 }
@@ -88,13 +88,13 @@ fn report_left(r: Reported, out: &[u8], due: &[u8]) -> bool {
 // How many working numbers may have changed, by the report that is due.
 fn free_by(due: &[u8]) -> usize {
     if text::same(text::field(due, 0), b"plan") {
-        return 4608;
+        return planner::WORKING_NUMBERS;
     }
     if text::same(text::field(due, 1), b"13") {
-        return 4608;
+        return planner::WORKING_NUMBERS;
     }
     if text::same(text::field(due, 1), b"14") {
-        return 4608;
+        return planner::WORKING_NUMBERS;
     }
     0
 }

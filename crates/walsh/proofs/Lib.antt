@@ -1,10 +1,3 @@
-pub mod Butterflies
 pub mod Copies
-pub mod Halving
-pub mod Merging
 pub mod Quotients
-pub mod Screens
-pub mod Spectra
-pub mod Terms
-pub mod Parity
 pub mod Undoing

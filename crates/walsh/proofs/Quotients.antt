@@ -25,10 +25,10 @@ use Rattle.integer.proofs.Bools.{clash}
 use Rattle.integer.proofs.Firsts.{first-hit, first-none, first-all}
 use Rattle.integer.proofs.Group.{natAbs-neg}
 use Rattle.integer.proofs.Tabs.{length-tab, getD-tab}
-use Rattle.walsh.specs.declared.Answer.the-variants.{Done, Refused}
-use Rattle.walsh.specs.Answers.{outside}
+use Rattle.screen.specs.declared.Answer.the-variants.{Done, Refused}
+use Rattle.screen.specs.Answers.{outside}
 use Rattle.walsh.specs.Lists.{quotientOf, unfit, unfitAt, firstUnfit, dividedAnswer, quotientAt, quotientsOf}
-use Rattle.walsh.proofs.Screens.{outside-sizes}
+use Rattle.screen.proofs.Screens.{outside-sizes}
 
 -- One sum, as the machine divides it.
 

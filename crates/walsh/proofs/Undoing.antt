@@ -18,15 +18,15 @@ use Rattle.integer.proofs.Bounds.{within-more}
 use Rattle.integer.proofs.Division.{quot-exact, quot-multiple, multiple-mod}
 use Rattle.integer.proofs.Group.{mul-cancel}
 use Rattle.integer.proofs.Tabs.{length-tab, getD-tab, tab-ext, tab-nth}
-use Rattle.walsh.specs.Spectrum.{signedSum, spectrumOf}
-use Rattle.walsh.specs.Answers.{numberOf, andThen, minus, outside, inputsOf, screenOf}
-use Rattle.walsh.specs.Lists.{spectrumAnswer, unfit, unfitAt, firstUnfit, dividedAnswer, quotientOf, quotientAt, quotientsOf, rowsOf, rowsAnswer}
-use Rattle.walsh.specs.declared.Answer.{Answer}
-use Rattle.walsh.specs.declared.Answer.the-variants.{Done, Refused}
-use Rattle.walsh.proofs.Halving.{sum-equal, sum-scale, twice}
+use Rattle.transform.specs.Spectrum.{signedSum, spectrumOf}
+use Rattle.screen.specs.Answers.{answerNumber, andThen, minus, outside, inputsOf, screenOf}
+use Rattle.walsh.specs.Lists.{spectrumAnswer, unfit, unfitAt, firstUnfit, dividedAnswer, quotientOf, quotientAt, quotientsOf, inverseRows, rowsAnswer}
+use Rattle.screen.specs.declared.Answer.{Answer}
+use Rattle.screen.specs.declared.Answer.the-variants.{Done, Refused}
+use Rattle.transform.proofs.Halving.{sum-equal, signed-sum-scale, twice}
 use Rattle.walsh.proofs.Quotients.{unfit-whole, unfit-divides, unfit-inside, divided-done, done-divided}
-use Rattle.walsh.proofs.Screens.{Screened, first-passed, screen-done, done-screen, screened-within, within-screened, inputs-power, inputs-most, outside-small, small-outside}
-use Rattle.walsh.proofs.Spectra.{length-spectrum, nth-spectrum, spectrum-rule, within-spectrum}
+use Rattle.screen.proofs.Screens.{Screened, first-passed, screen-done, done-screen, screened-within, within-screened, inputs-power, inputs-most, outside-small, small-outside}
+use Rattle.transform.proofs.Spectra.{length-spectrum, nth-spectrum, spectrum-rule, within-spectrum}
 
 -- The sums of a spectrum's coefficients are 2 ^ k times the rows.
 
@@ -37,8 +37,8 @@ module _ (rows : List ℤ) (k : ℕ) (size : length rows ≡ 2 ^ k) where
       ∙ sum-equal (2 ^ k) (nth (spectrumOf rows)) (signedSum (2 ^ k) (nth rows)) x (λ l b. nth-spectrum rows (2 ^ k) l size b)
       ∙ twice k (nth rows) x h
 
-  pub rows-back : rowsOf (spectrumOf rows) ≡ rows
-  unfolding rowsOf quotientsOf quotientAt
+  pub rows-back : inverseRows (spectrumOf rows) ≡ rows
+  unfolding inverseRows quotientsOf quotientAt
   rows-back =
       let n : length (spectrumOf (spectrumOf rows)) ≡ length rows = length-spectrum (spectrumOf rows) ∙ length-spectrum rows in
       let m : length (spectrumOf rows) ≡ 2 ^ k = length-spectrum rows ∙ size in
@@ -65,8 +65,8 @@ module _ (c : List ℤ) (k : ℕ) (size : length c ≡ 2 ^ k) (fits : (x : ℕ) 
   abbrev row : ℕ → ℤ
   row = quotientAt (2 ^ k) (spectrumOf c)
 
-  rows-are : rowsOf c ≡ tab (2 ^ k) row
-  unfolding rowsOf quotientsOf
+  rows-are : inverseRows c ≡ tab (2 ^ k) row
+  unfolding inverseRows quotientsOf
   rows-are = ap₂ (λ (n d : ℕ). tab n (quotientAt d (spectrumOf c))) (length-spectrum c ∙ size) size
 
   times-row : (x : ℕ) → x < 2 ^ k → pos (2 ^ k) *ℤ row x ≡ signedSum (2 ^ k) (nth c) x
@@ -78,18 +78,18 @@ module _ (c : List ℤ) (k : ℕ) (size : length c ≡ 2 ^ k) (fits : (x : ℕ) 
       let p = above (2 ^ k) (pow-pos k) in
       mul-cancel (p .0) (signedSum (2 ^ k) row l) (nth c l)
       (subst (λ (n : ℕ). pos n *ℤ signedSum (2 ^ k) row l ≡ pos n *ℤ nth c l) (p .1)
-      (sym (sum-scale (2 ^ k) (2 ^ k) row l) ∙ sum-equal (2 ^ k) _ _ l times-row ∙ twice k (nth c) l h))
+      (sym (signed-sum-scale (2 ^ k) (2 ^ k) row l) ∙ sum-equal (2 ^ k) _ _ l times-row ∙ twice k (nth c) l h))
 
-  pub spectrum-back : spectrumOf (rowsOf c) ≡ c
+  pub spectrum-back : spectrumOf (inverseRows c) ≡ c
   spectrum-back = ap spectrumOf rows-are ∙ spectrum-rule (2 ^ k) row ∙ tab-ext (2 ^ k) _ _ sum-row ∙ ap (λ (n : ℕ). tab n (nth c)) (sym size) ∙ tab-nth c
 
-  pub length-rows : length (rowsOf c) ≡ length c
-  length-rows = ap length rows-are ∙ length-tab (2 ^ k) row ∙ sym size
+  pub length-inverse : length (inverseRows c) ≡ length c
+  length-inverse = ap length rows-are ∙ length-tab (2 ^ k) row ∙ sym size
 
-  pub rows-within : Within 1000 (rowsOf c)
+  pub inverse-within : Within 1000 (inverseRows c)
   unfolding quotientAt unfitAt
-  rows-within x h =
-      let n = length-rows in
+  inverse-within x h =
+      let n = length-inverse in
       let b : x < 2 ^ k = omega arith in
       subst (λ (z : ℤ). natAbs z ≤ 1000) (sym (ap (λ (l : List ℤ). nth l x) rows-are ∙ getD-tab (2 ^ k) row (pos 0) x b))
       (outside-small 1000 (row x) (unfit-inside (2 ^ k) (minus 1000) (pos 1000) (nth (spectrumOf c) x) (fits x b)))
@@ -135,34 +135,34 @@ module _ (c : List ℤ) (room : ℕ) (passed : screened c room ≡ Done) where
       ∙ sums-fit rows inputs n w x (omega (arith, length-spectrum c, size)))
 
   -- 11 is the only refusal that is left
-  done-or-11 : (divided ≡ Done) ⊎ (numberOf divided ≡ 11)
+  done-or-11 : (divided ≡ Done) ⊎ (answerNumber divided ≡ 11)
   unfolding dividedAnswer
   done-or-11 = go (ltb (firstUnfit (length c) (minus 1000) (pos 1000) (spectrumOf c)) (length (spectrumOf c)))
     where
       go : (b : Bool) → (cond b (Refused 11 (firstUnfit (length c) (minus 1000) (pos 1000) (spectrumOf c))) Done ≡ Done)
-          ⊎ (numberOf (cond b (Refused 11 (firstUnfit (length c) (minus 1000) (pos 1000) (spectrumOf c))) Done) ≡ 11)
+          ⊎ (answerNumber (cond b (Refused 11 (firstUnfit (length c) (minus 1000) (pos 1000) (spectrumOf c))) Done) ≡ 11)
       go true = inr refl
       go false = inl refl
 
-  pub refused-exactly : (numberOf (rowsAnswer c room) ≡ 11) ↔ ((rows : List ℤ) → Within 1000 rows → spectrumOf rows ≡ c → ⊥)
+  pub refused-exactly : (answerNumber (rowsAnswer c room) ≡ 11) ↔ ((rows : List ℤ) → Within 1000 rows → spectrumOf rows ≡ c → ⊥)
   refused-exactly = (to, from)
     where
-      to : numberOf (rowsAnswer c room) ≡ 11 → (rows : List ℤ) → Within 1000 rows → spectrumOf rows ≡ c → ⊥
-      to e rows w s = let z : _≡_ {A = ℕ} 0 11 = sym (ap numberOf (answer-is ∙ rows-done rows w s)) ∙ e in omega arith
+      to : answerNumber (rowsAnswer c room) ≡ 11 → (rows : List ℤ) → Within 1000 rows → spectrumOf rows ≡ c → ⊥
+      to e rows w s = let z : _≡_ {A = ℕ} 0 11 = sym (ap answerNumber (answer-is ∙ rows-done rows w s)) ∙ e in omega arith
 
-      from : ((rows : List ℤ) → Within 1000 rows → spectrumOf rows ≡ c → ⊥) → numberOf (rowsAnswer c room) ≡ 11
+      from : ((rows : List ℤ) → Within 1000 rows → spectrumOf rows ≡ c → ⊥) → answerNumber (rowsAnswer c room) ≡ 11
       from none =
-          ap numberOf answer-is
-          ∙ ⊎-elim (λ d. absurd (none (rowsOf c) (rows-within c inputs size (sums-done d)) (spectrum-back c inputs size (sums-done d)))) (λ e. e) done-or-11
+          ap answerNumber answer-is
+          ∙ ⊎-elim (λ d. absurd (none (inverseRows c) (inverse-within c inputs size (sums-done d)) (spectrum-back c inputs size (sums-done d)))) (λ e. e) done-or-11
 
   -- a result: rows in range with that spectrum
-  pub rows-met : rowsAnswer c room ≡ Done → Within 1000 (rowsOf c) × (spectrumOf (rowsOf c) ≡ c) × (length (rowsOf c) ≡ length c)
+  pub rows-met : rowsAnswer c room ≡ Done → Within 1000 (inverseRows c) × (spectrumOf (inverseRows c) ≡ c) × (length (inverseRows c) ≡ length c)
   rows-met e =
       let fits = sums-done (sym answer-is ∙ e) in
-      (rows-within c inputs size fits, spectrum-back c inputs size fits, length-rows c inputs size fits)
+      (inverse-within c inputs size fits, spectrum-back c inputs size fits, length-inverse c inputs size fits)
 
 -- the way back takes every spectrum that the list call gives, and gives the rows again
-pub undo : (rows : List ℤ) (room : ℕ) → spectrumAnswer rows room ≡ Done → (rowsAnswer (spectrumOf rows) room ≡ Done) × (rowsOf (spectrumOf rows) ≡ rows)
+pub undo : (rows : List ℤ) (room : ℕ) → spectrumAnswer rows room ≡ Done → (rowsAnswer (spectrumOf rows) room ≡ Done) × (inverseRows (spectrumOf rows) ≡ rows)
 unfolding spectrumAnswer
 undo rows room e = (answer-is (spectrumOf rows) room passed ∙ rows-done (spectrumOf rows) room passed rows within refl, rows-back rows (inputsOf (length rows)) size-of)
   where
@@ -189,7 +189,7 @@ undo rows room e = (answer-is (spectrumOf rows) room passed ∙ rows-done (spect
         })
 
 -- the list call takes the rows that the way back gives, and gives the coefficients again
-pub redo : (c : List ℤ) (room : ℕ) → rowsAnswer c room ≡ Done → (spectrumAnswer (rowsOf c) room ≡ Done) × (spectrumOf (rowsOf c) ≡ c)
+pub redo : (c : List ℤ) (room : ℕ) → rowsAnswer c room ≡ Done → (spectrumAnswer (inverseRows c) room ≡ Done) × (spectrumOf (inverseRows c) ≡ c)
 unfolding spectrumAnswer rowsAnswer
 redo c room e = (taken, met .1)
   where
@@ -199,15 +199,15 @@ redo c room e = (taken, met .1)
     known : Screened (minus 2048000) (pos 2048000) true c room (length c)
     known = tests c room passed
 
-    met : Within 1000 (rowsOf c) × (spectrumOf (rowsOf c) ≡ c) × (length (rowsOf c) ≡ length c)
+    met : Within 1000 (inverseRows c) × (spectrumOf (inverseRows c) ≡ c) × (length (inverseRows c) ≡ length c)
     met = rows-met c room passed e
 
-    taken : screenOf (minus 1000) (pos 1000) true (rowsOf c) room (length (rowsOf c)) ≡ Done
+    taken : screenOf (minus 1000) (pos 1000) true (inverseRows c) room (length (inverseRows c)) ≡ Done
     taken =
         let n = met .2 in
-        done-screen (minus 1000) (pos 1000) true (rowsOf c) room (length (rowsOf c)) (record {
+        done-screen (minus 1000) (pos 1000) true (inverseRows c) room (length (inverseRows c)) (record {
           sized = subst (λ (m : ℕ). 0 < inputsOf m) (sym n) (known .sized);
           right = refl;
-          inside = within-screened 1000 (rowsOf c) (met .0);
+          inside = within-screened 1000 (inverseRows c) (met .0);
           fits = let r = known .fits in omega arith;
         })

@@ -1,4 +1,2 @@
-pub mod Spectrum
-pub mod Answers
+pub mod Coefficients
 pub mod Lists
-pub mod Steps

@@ -10,10 +10,10 @@ use lib.ListN.{length}
 use lib.Signed.{quotZ}
 use Rattle.integer.specs.First.{firstWhere}
 use Rattle.integer.specs.Tab.{tab, nth}
-use Rattle.walsh.specs.Answers.{andThen, minus, outside, screenOf}
-use Rattle.walsh.specs.Spectrum.{spectrumOf}
-use Rattle.walsh.specs.declared.Answer.{Answer}
-use Rattle.walsh.specs.declared.Answer.the-variants.{Done, Refused}
+use Rattle.screen.specs.Answers.{andThen, minus, outside, screenOf}
+use Rattle.transform.specs.Spectrum.{spectrumOf}
+use Rattle.screen.specs.declared.Answer.{Answer}
+use Rattle.screen.specs.declared.Answer.the-variants.{Done, Refused}
 
 unfoldable pub spectrumAnswer : List ℤ → ℕ → Answer
 spectrumAnswer rows room = screenOf (minus 1000) (pos 1000) true rows room (length rows)
@@ -43,8 +43,8 @@ unfoldable pub quotientsOf : ℕ → List ℤ → List ℤ
 quotientsOf d sums = tab (length sums) (quotientAt d sums)
 
 -- the rows of a spectrum: the signed sums of the coefficients, divided by the length
-unfoldable pub rowsOf : List ℤ → List ℤ
-rowsOf coefficients = quotientsOf (length coefficients) (spectrumOf coefficients)
+unfoldable pub inverseRows : List ℤ → List ℤ
+inverseRows coefficients = quotientsOf (length coefficients) (spectrumOf coefficients)
 
 unfoldable pub rowsAnswer : List ℤ → ℕ → Answer
 rowsAnswer coefficients room =

@@ -1,16 +1,14 @@
 // Rows to their spectrum, and a spectrum to its rows.
-use crate::Answer;
-use crate::fast;
-use crate::screen;
 use crate::work;
+use screen::Answer;
 ghost use mathlib.Core.Path.{_≡_};
 ghost use Prim.Native.Nat.{_^_, _≤_};
 ghost use lib.IntN.{pos};
 ghost use lib.ListN.{length};
 ghost use Rattle.integer.specs.Tab.{Within};
-ghost use Rattle.walsh.specs.Answers.{leaves, written, minus};
-ghost use Rattle.walsh.specs.Lists.{spectrumAnswer, rowsAnswer, rowsOf, dividedAnswer};
-ghost use Rattle.walsh.specs.Spectrum.{spectrumOf};
+ghost use Rattle.screen.specs.Answers.{leaves, written, minus};
+ghost use Rattle.walsh.specs.Lists.{spectrumAnswer, rowsAnswer, inverseRows, dividedAnswer};
+ghost use Rattle.transform.specs.Spectrum.{spectrumOf};
 
 // The spectrum of `rows` to the front of `out`, by way of as many working numbers.
 fn spectrum_by(rows: &[i32], inputs: u32, work: &mut [i64], out: &mut [i32])
@@ -20,7 +18,7 @@ fn spectrum_by(rows: &[i32], inputs: u32, work: &mut [i64], out: &mut [i32])
     ensures { λ _. ⌜ now (out .exit) ≡ written (spectrumOf (now (rows .entry))) (now (out .entry)) ⌝ }
 {
     work::widen(rows, work);
-    fast::transform(work, inputs);
+    transform::transform(work, inputs);
     work::narrow(work, out);
 }
 
@@ -46,17 +44,17 @@ fn rows_by(coefficients: &[i32], inputs: u32, work: &mut [i64], out: &mut [i32])
     requires { ⌜ Within 2048000 (now coefficients) ⌝ }
     requires { ⌜ (length (now work) ≡ length (now coefficients)) × (length (now coefficients) ≤ length (now out)) ⌝ }
     ensures { λ r. ⌜ r ≡ dividedAnswer (length (now (coefficients .entry))) (minus 1000) (pos 1000) (spectrumOf (now (coefficients .entry))) ⌝ }
-    ensures { λ r. ⌜ now (out .exit) ≡ leaves r (rowsOf (now (coefficients .entry))) (now (out .entry)) ⌝ }
+    ensures { λ r. ⌜ now (out .exit) ≡ leaves r (inverseRows (now (coefficients .entry))) (now (out .entry)) ⌝ }
 {
     work::widen(coefficients, work);
-    fast::transform(work, inputs);
+    transform::transform(work, inputs);
     work::divided(work, coefficients.len(), -1000, 1000, out)
 }
 
 // The rows from -1,000 to 1,000 that have this spectrum, written to the front of `out`; or 9, 10, 8, 11.
 pub fn rows(coefficients: &[i32], out: &mut [i32]) -> Answer
     ensures { λ r. ⌜ r ≡ rowsAnswer (now (coefficients .entry)) (length (now (out .entry))) ⌝ }
-    ensures { λ r. ⌜ now (out .exit) ≡ leaves r (rowsOf (now (coefficients .entry))) (now (out .entry)) ⌝ }
+    ensures { λ r. ⌜ now (out .exit) ≡ leaves r (inverseRows (now (coefficients .entry))) (now (out .entry)) ⌝ }
 {
     let n = coefficients.len();
     match screen::screen(coefficients, -2048000, 2048000, true, out.len(), n) {

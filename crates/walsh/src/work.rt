@@ -1,11 +1,11 @@
 // Lists of 32-bit numbers to working numbers of 64 bits, and back.
-use crate::Answer;
+use screen::Answer;
 ghost use mathlib.Core.Path.{_≡_};
 ghost use Prim.Native.Nat.{_+_, _≤_};
 ghost use lib.IntN.{natAbs};
 ghost use lib.ListN.{length};
 ghost use Rattle.integer.specs.Tab.{Within};
-ghost use Rattle.walsh.specs.Answers.{leaves, written};
+ghost use Rattle.screen.specs.Answers.{leaves, written};
 ghost use Rattle.walsh.specs.Lists.{firstUnfit, quotientsOf, dividedAnswer};
 
 // Copies `list` to `work`.

@@ -5,15 +5,12 @@ use Rattle.planner.specs.declared.Planned.{Planned}
 use Rattle.capi.proofs.walsh_plan.Statement.{statement}
 use Rattle.capi.proofs.walsh_plan.Tie as tie
 
--- src/lib.rt:142:9
 plan-requires : tie.Need-plan-requires
 plan-requires c κs = search needs
 
--- src/lib.rt:137:1
 same-length : tie.Need-same-length
 same-length c = search needs
 
--- src/lib.rt:137:1
 returns : tie.Need-returns
 returns c =
     let p = c .before .before .before .plan in (

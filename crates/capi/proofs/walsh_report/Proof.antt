@@ -5,19 +5,15 @@ use Rattle.report.specs.declared.Reported.{Reported}
 use Rattle.capi.proofs.walsh_report.Statement.{statement}
 use Rattle.capi.proofs.walsh_report.Tie as tie
 
--- src/lib.rt:159:9
 report-requires : tie.Need-report-requires
 report-requires c κs = search needs
 
--- src/lib.rt:153:1
 same-length : tie.Need-same-length
 same-length c = search needs
 
--- src/lib.rt:153:1
 same-length-2 : tie.Need-same-length-2
 same-length-2 c = search needs
 
--- src/lib.rt:153:1
 returns : tie.Need-returns
 returns c =
     let r = c .before .before .before .before .report in

@@ -11,10 +11,10 @@ use lib.ListN.{length}
 use lib.Seq.{length-take-le}
 use borrow.Author.Tests.{ltb-true}
 use Rattle.integer.proofs.Machine.{bit-is}
-use Rattle.walsh.specs.Answers.{andThen, minus, inputsOf, screenOf}
-use Rattle.walsh.specs.declared.Answer.{Answer}
-use Rattle.walsh.specs.declared.Answer.the-variants.{Done}
-use Rattle.walsh.proofs.Screens.{Ready, ready, screen-due}
+use Rattle.screen.specs.Answers.{andThen, minus, inputsOf, screenOf}
+use Rattle.screen.specs.declared.Answer.{Answer}
+use Rattle.screen.specs.declared.Answer.the-variants.{Done}
+use Rattle.screen.proofs.Screens.{Ready, ready, screen-due}
 use Rattle.faults.specs.Faults.{keptInputs, openedRight, openedAnswer, undividedAnswer}
 use Rattle.faults.specs.Steps.{keptOf}
 use Rattle.faults.proofs.Arguments.{kept-is, kept-right, kept-most}

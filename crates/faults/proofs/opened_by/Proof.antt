@@ -12,9 +12,9 @@ use lib.Pow.{pow-pos, pow-mono}
 use lib.Seq.{length-take-le}
 use Rattle.integer.specs.Tab.{Within}
 use Rattle.integer.proofs.Machine.{bit-is}
-use Rattle.walsh.specs.Answers.{leaves, minus, inputsOf}
+use Rattle.screen.specs.Answers.{leaves, minus, inputsOf}
 use Rattle.walsh.specs.Lists.{dividedAnswer, quotientsOf}
-use Rattle.faults.specs.Faults.{stuckSpectrumOf, rising, linesAfter}
+use Rattle.faults.specs.Faults.{stuckSpectrumOf, risingInputs, linesAfter}
 use Rattle.faults.proofs.Arguments.{OpenedCall, opened-call, lines-after, rising-after}
 use Rattle.faults.proofs.Opening.{openedSums, opened-sums, sums-answer, sums-quotients}
 use Rattle.faults.proofs.Sticking.{length-stuck}
@@ -75,7 +75,7 @@ stick-all-requires c κs =
     let k = known s in
     let few = k .few in
     let parts = k .parts in
-    subst⁻¹ (λ (l : List ℤ). ((length (Lines s) ≤ 3) × (K s ≡ length (Lines s))) × ((rising 0 (inputsOf (length l)) (Lines s) ≡ true) × Within 2048000 l))
+    subst⁻¹ (λ (l : List ℤ). ((length (Lines s) ≤ 3) × (K s ≡ length (Lines s))) × ((risingInputs 0 (inputsOf (length l)) (Lines s) ≡ true) × Within 2048000 l))
     (c .before .before .before .widen .ensures)
     ((omega (arith, as-many s), as-many s), (rising-after (N s) (inputsOf (length (C s))) (K s) few (omega arith), s .pre .1 .0))
 

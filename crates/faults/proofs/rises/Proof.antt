@@ -3,13 +3,13 @@ use borrow.Author.Needs.{needs}
 use mathlib.Core.Path.{_≡_, refl, sym, _∙_}
 use Prim.Native.Nat.{_-_, _≤_}
 use lib.ListN.{length, drop}
-use Rattle.faults.specs.Faults.{rising}
+use Rattle.faults.specs.Faults.{risingInputs}
 use Rattle.faults.proofs.Arguments.{rising-low, rising-high, rising-next, rising-end}
 use Rattle.faults.proofs.rises.Statement.{statement}
 use Rattle.faults.proofs.rises.Tie as tie
 
 abbrev Inv-loop : tie.InvT-loop
-Inv-loop lines n last₀ i₀ last i = (i ≤ length lines) × (rising 0 n lines ≡ rising last n (drop i lines))
+Inv-loop lines n last₀ i₀ last i = (i ≤ length lines) × (risingInputs 0 n lines ≡ risingInputs last n (drop i lines))
 
 abbrev μ-loop : tie.MeasureT-loop
 μ-loop lines n last₀ i₀ last i = length lines - i

@@ -12,11 +12,10 @@ use mir.Val.{ofZ, toZ}
 use mir.ValLaws.{toZ-ofZ}
 use Rattle.integer.specs.Sum.{signed}
 use Rattle.integer.specs.Tab.{nth}
-use Rattle.integer.proofs.Machine.{reads as read-back}
-use Rattle.integer.proofs.Machine.{bit-is}
-use Rattle.walsh.proofs.Screens.{inputs-most}
+use Rattle.integer.proofs.Machine.{reads-back, bit-is}
+use Rattle.screen.proofs.Screens.{inputs-most}
 use Rattle.faults.specs.Steps.{stuckOnceAt}
-use Rattle.faults.proofs.OneStuck.{stuck-to, stuck-start, stuck-end, length-stuck-to, read-ahead, turn, partner-below, once-joined, once-named}
+use Rattle.faults.proofs.OneStuck.{stuck-to, stuck-start, stuck-end, length-stuck-to, read-ahead, stick-turn, partner-below, once-joined, once-named}
 use Rattle.faults.proofs.stick.Statement.{statement}
 use Rattle.faults.proofs.stick.Tie as tie
 
@@ -83,10 +82,10 @@ module _ (t : tie.Then1 Inv-loop μ-loop) where
   ahead j h = ap (ofZ w64) (read-ahead S W A I (t .before .before .loop .a) (t .before .before .loop .inv .2) j h)
 
   x-is : toZ w64 (ofZ w64 (nth (t .before .before .loop .a) I)) ≡ X
-  x-is = read-back w64 X (ahead I (omega arith)) (omega (arith, x-size))
+  x-is = reads-back w64 X (ahead I (omega arith)) (omega (arith, x-size))
 
   y-is : toZ w64 (ofZ w64 (nth (t .before .before .loop .a) (I + (1 * 2 ^ (S - 1)) % 2 ^ 64))) ≡ Y
-  y-is = rw bit (read-back w64 Y (ahead (I + 2 ^ (S - 1)) (omega arith)) (omega (arith, y-size)))
+  y-is = rw bit (reads-back w64 Y (ahead (I + 2 ^ (S - 1)) (omega arith)) (omega (arith, y-size)))
 
   joined-is : {r x y : ℤ} → r ≡ x +ℤ signed W y → x ≡ X → y ≡ Y → r ≡ stuckOnceAt S W A I
   joined-is e ex ey = e ∙ ap₂ (λ (x y : ℤ). x +ℤ signed W y) ex ey ∙ sym (once-joined S W A I (t .if1 .taken))
@@ -132,7 +131,7 @@ next : (c : tie.Joined1 Inv-loop μ-loop) → let a = c .before .before .before 
 next c =
     let l = c .before .before in
     let a = l .before .args in
-    let step = turn (a .input) (a .value) (a .a .now) (l .loop .i) (l .loop .a) in
+    let step = stick-turn (a .input) (a .value) (a .a .now) (l .loop .i) (l .loop .a) in
     let h : l .loop .i < length (a .a .now) = omega arith in
     ⊎-elim
     (λ w. let t : tie.Then1 Inv-loop μ-loop = record { before = c .before; if1 = w .0 } in

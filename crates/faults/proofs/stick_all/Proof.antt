@@ -8,7 +8,7 @@ use native.Mathlib.Omega.{arith}
 use lib.IntN.{ℤ}
 use lib.ListN.{length, getD}
 use Rattle.integer.specs.Tab.{Within}
-use Rattle.walsh.specs.Answers.{inputsOf}
+use Rattle.screen.specs.Answers.{inputsOf}
 use Rattle.faults.specs.Steps.{stuckOnce}
 use Rattle.faults.proofs.OneStuck.{stuck-from, from-none, from-length, from-within, from-line, from-step}
 use Rattle.faults.proofs.stick_all.Statement.{statement}

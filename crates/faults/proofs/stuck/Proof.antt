@@ -6,9 +6,9 @@ use mathlib.Core.Bool.{Bool}
 use lib.IntN.{pos}
 use lib.ListN.{length}
 use lib.Seq.{length-take-le}
-use Rattle.walsh.specs.Answers.{minus, inputsOf, screenOf}
-use Rattle.walsh.specs.declared.Answer.the-variants.{Done}
-use Rattle.walsh.proofs.Screens.{Ready, ready}
+use Rattle.screen.specs.Answers.{minus, inputsOf, screenOf}
+use Rattle.screen.specs.declared.Answer.the-variants.{Done}
+use Rattle.screen.proofs.Screens.{Ready, ready}
 use Rattle.faults.specs.Faults.{stuckRight, stuckAnswer}
 use Rattle.faults.proofs.Arguments.{StuckRight, stuck-right-means}
 use Rattle.faults.proofs.stuck.Statement.{statement}

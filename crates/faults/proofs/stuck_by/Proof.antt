@@ -9,8 +9,8 @@ use lib.IntN.{ℤ}
 use lib.ListN.{length}
 use Rattle.integer.specs.Tab.{Within}
 use Rattle.integer.proofs.Bounds.{within-more}
-use Rattle.walsh.specs.Answers.{written, inputsOf}
-use Rattle.faults.specs.Faults.{Stuck, stuckOf, stuckSpectrumOf, rising}
+use Rattle.screen.specs.Answers.{written, inputsOf}
+use Rattle.faults.specs.Faults.{Stuck, stuckOf, stuckSpectrumOf, risingInputs}
 use Rattle.faults.proofs.Arguments.{length-stuck-of}
 use Rattle.faults.proofs.Sticking.{length-stuck, within-stuck}
 use Rattle.faults.proofs.stuck_by.Statement.{statement}
@@ -22,7 +22,7 @@ widen-requires c κs = search needs
 stick-all-requires : tie.Need-stick-all-requires
 stick-all-requires c κs =
     let s = c .before .before .before .before .before .before in
-    subst⁻¹ (λ (l : List ℤ). ((length (s .args .lines .now) ≤ 3) × (length (s .args .values .now) ≡ length (s .args .lines .now))) × ((rising 0 (inputsOf (length l)) (s .args .lines .now) ≡ true) × Within 2048000 l))
+    subst⁻¹ (λ (l : List ℤ). ((length (s .args .lines .now) ≤ 3) × (length (s .args .values .now) ≡ length (s .args .lines .now))) × ((risingInputs 0 (inputsOf (length l)) (s .args .lines .now) ≡ true) × Within 2048000 l))
     (c .before .before .widen .ensures) (s .pre .0, (s .pre .1 .0, s .pre .1 .1 .0))
 
 -- the working numbers with the lines stuck

@@ -13,7 +13,7 @@ use Rattle.integer.specs.Tab.{nth}
 use Rattle.integer.proofs.Bounds.{sfits-abs}
 use Rattle.integer.proofs.Machine.{add-is, add-fits}
 use Rattle.reading.specs.Readings.{termAt, wholeSum}
-use Rattle.reading.proofs.Totals.{sum-le, term-room, sum-taken, sum-left}
+use Rattle.reading.proofs.Totals.{total-le, total-room, sum-taken, sum-left}
 use Rattle.reading.proofs.sum_of.Statement.{statement}
 use Rattle.reading.proofs.sum_of.Tie as tie
 
@@ -42,7 +42,7 @@ add-sum c =
     let a = l .before .args in
     let rows = a .rows .now in
     let i = l .loop .row in
-    let room = term-room (a .mask) (a .values) rows i (l .before .pre .0) (l .before .pre .1) (c .before .before .loop-test .taken) in
+    let room = total-room (a .mask) (a .values) rows i (l .before .pre .0) (l .before .pre .1) (c .before .before .loop-test .taken) in
     add-fits w32 (sumTo i (termAt (a .mask) (a .values) rows)) (nth rows i) (l .loop .inv .1) refl room
 
 add-row : tie.Need-add-row Inv-loop μ-loop
@@ -57,7 +57,7 @@ loop-again c =
     let a = l .before .args in
     let rows = a .rows .now in
     let i = l .loop .row in
-    let room = term-room (a .mask) (a .values) rows i (l .before .pre .0) (l .before .pre .1) (c .before .loop-test .taken) in (
+    let room = total-room (a .mask) (a .values) rows i (l .before .pre .0) (l .before .pre .1) (c .before .loop-test .taken) in (
       search needs,
       ⊎-elim
           (λ w. w .2 ∙ ap (ofZ w32) (add-is w32 (sumTo i (termAt (a .mask) (a .values) rows)) (nth rows i) (l .loop .inv .1) refl room ∙ sum-taken (a .mask) (a .values) rows i (w .0 .taken)))
@@ -73,7 +73,7 @@ returns c =
     let rows = a .rows .now in
     let n : l .loop .row ≡ length rows = omega arith in
     ap (toZ w32) (l .loop .inv .1 ∙ ap (λ (k : ℕ). ofZ w32 (sumTo k (termAt (a .mask) (a .values) rows))) n)
-    ∙ toZ-ofZ w32 (wholeSum (a .mask) (a .values) rows) (sfits-abs (omega (arith, sum-le (a .mask) (a .values) rows 1000 (length rows) (omega arith) (l .before .pre .1))))
+    ∙ toZ-ofZ w32 (wholeSum (a .mask) (a .values) rows) (sfits-abs (omega (arith, total-le (a .mask) (a .values) rows 1000 (length rows) (omega arith) (l .before .pre .1))))
 
 pub sum-of-spec : {M : Type 1} → statement M
 sum-of-spec =

@@ -14,12 +14,12 @@ use Rattle.netlist.specs.Circuits.{Netlist, netlistOf, faultAt}
 use Rattle.simulation.specs.Rows.{rowsOf}
 use Rattle.statements.specs.Items.{sound}
 use Rattle.statements.specs.Lines.{faultWord}
-use Rattle.text.specs.Writing.{lineOf}
-use Rattle.walsh.specs.Spectrum.{spectrumOf}
+use Rattle.writing.specs.Writing.{lineOf}
+use Rattle.transform.specs.Spectrum.{spectrumOf}
 use Rattle.planner.specs.PlanCall.{soundRows, faultedRows}
-use Rattle.report.specs.ReportCall.{faultLine}
+use Rattle.report.specs.ReportCall.{faultReportLine}
 use Rattle.simulation.proofs.RowBounds.{rows-in-range}
-use Rattle.simulation.proofs.Counts.{faults-counted}
+use Rattle.netlist.proofs.Counts.{faults-counted}
 use Rattle.report.proofs.ReportLines.{spectrum-left, spectrum-ready, fault-line-length, fault-read, read-room, read-written}
 use Rattle.report.proofs.fault_line.Statement.{statement}
 use Rattle.report.proofs.fault_line.Tie as tie
@@ -32,7 +32,7 @@ module _ (s : tie.Start) where
   faulty = let e = faults-counted (s .args .c) (s .pre .0 .0) (search (needs, length-mapped)) in omega (arith, e, s .pre .1 .2)
 
   abbrev line : List ℕ
-  line = faultLine (soundRows n) (faultedRows n) (s .args .labels .now) (s .args .f)
+  line = faultReportLine (soundRows n) (faultedRows n) (s .args .labels .now) (s .args .f)
 
 -- what the call leaves
 module _ (t : tie.After-fault-spectrum) where

@@ -7,18 +7,18 @@ use Prim.Native.Nat.{ℕ, _+_, _-_, _*_, _<_, _≤_}
 use lib.ListN.{length}
 use Rattle.integer.proofs.Tabs.{length-mapped}
 use Rattle.netlist.specs.Circuits.{Netlist, netlistOf}
-use Rattle.text.specs.Writing.{gather}
-use Rattle.text.proofs.Writings.{Written, none-written, as-long, text-more, all-written, all-fit, next-fits}
+use Rattle.writing.specs.Writing.{gather}
+use Rattle.writing.proofs.Writings.{WrittenSoFar, none-written, as-long, text-more, all-written, all-fit, next-fits}
 use Rattle.planner.specs.PlanCall.{soundRows, faultedRows}
-use Rattle.report.specs.ReportCall.{faultLine}
-use Rattle.simulation.proofs.Counts.{faults-counted}
+use Rattle.report.specs.ReportCall.{faultReportLine}
+use Rattle.netlist.proofs.Counts.{faults-counted}
 use Rattle.report.proofs.ReportLines.{fault-line-length}
 use Rattle.report.proofs.fault_lines.Statement.{statement}
 use Rattle.report.proofs.fault_lines.Tie as tie
 
 abbrev Inv-loop : tie.InvT-loop
 Inv-loop c labels sound faulted₀ out₀ at count end₀ f₀ faulted out end f =
-    (length faulted ≡ length faulted₀) × Written at (faultLine (soundRows (netlistOf c)) (faultedRows (netlistOf c)) labels) count out₀ f out end
+    (length faulted ≡ length faulted₀) × WrittenSoFar at (faultReportLine (soundRows (netlistOf c)) (faultedRows (netlistOf c)) labels) count out₀ f out end
 
 abbrev μ-loop : tie.MeasureT-loop
 μ-loop c labels sound faulted₀ out₀ at count end₀ f₀ faulted out end f = count - f
@@ -29,7 +29,7 @@ module _ (s : tie.Start Inv-loop μ-loop) where
   n = netlistOf (s .args .c)
 
   abbrev line : ℕ → List ℕ
-  line = faultLine (soundRows n) (faultedRows n) (s .args .labels .now)
+  line = faultReportLine (soundRows n) (faultedRows n) (s .args .labels .now)
 
   each : (f : ℕ) → f < s .args .c .head .faults → length (line f) ≤ 20
   unfolding netlistOf

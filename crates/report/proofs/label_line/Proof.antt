@@ -5,7 +5,7 @@ use Prim.Native.Nat.{_<_}
 use lib.IntN.{pos}
 use borrow.Author.Needs.{needs}
 use Rattle.integer.specs.Tab.{nth}
-use Rattle.text.specs.Writing.{lineOf}
+use Rattle.writing.specs.Writing.{lineOf}
 use Rattle.report.specs.ReportCall.{labelWord}
 use Rattle.report.proofs.ReportLines.{label-length, label-read, read-room, read-written}
 use Rattle.report.proofs.label_line.Statement.{statement}

@@ -4,15 +4,15 @@ use native.Mathlib.Omega.{arith}
 use mathlib.Core.List.{List}
 use Prim.Native.Nat.{ℕ, _+_, _-_, _*_, _<_, _≤_}
 use lib.ListN.{length}
-use Rattle.text.specs.Writing.{gather}
-use Rattle.text.proofs.Writings.{Written, none-written, as-long, text-more, all-written, all-fit, next-fits}
+use Rattle.writing.specs.Writing.{gather}
+use Rattle.writing.proofs.Writings.{WrittenSoFar, none-written, as-long, text-more, all-written, all-fit, next-fits}
 use Rattle.report.specs.Steps.{spectralLabelLine}
 use Rattle.report.proofs.ReportLines.{label-each}
 use Rattle.report.proofs.label_lines.Statement.{statement}
 use Rattle.report.proofs.label_lines.Tie as tie
 
 abbrev Inv-loop : tie.InvT-loop
-Inv-loop out₀ at labels sound end₀ i₀ out end i = Written at (spectralLabelLine sound labels) (length labels) out₀ i out end
+Inv-loop out₀ at labels sound end₀ i₀ out end i = WrittenSoFar at (spectralLabelLine sound labels) (length labels) out₀ i out end
 
 abbrev μ-loop : tie.MeasureT-loop
 μ-loop out₀ at labels sound end₀ i₀ out end i = length labels - i

@@ -2,7 +2,7 @@
 use borrow.Author.Needs.{needs}
 use mathlib.Core.Path.{sym, _∙_}
 use lib.Seq.{length-take-le}
-use Rattle.simulation.proofs.Counts.{due-is, due-few}
+use Rattle.netlist.proofs.Counts.{due-is, due-few}
 use Rattle.report.proofs.plan_lines.Statement.{statement}
 use Rattle.report.proofs.plan_lines.Tie as tie
 

@@ -9,13 +9,13 @@ use lib.ListN.{length}
 use Rattle.integer.proofs.Tabs.{length-mapped}
 use Rattle.netlist.specs.Circuits.{Netlist, netlistOf}
 use Rattle.statements.specs.Items.{sound as unfaulted}
-use Rattle.text.specs.Writing.{placed, gather}
-use Rattle.walsh.specs.Spectrum.{spectrumOf}
+use Rattle.writing.specs.Writing.{placed, gather}
+use Rattle.transform.specs.Spectrum.{spectrumOf}
 use Rattle.planner.specs.PlanCall.{soundRows, faultedRows}
-use Rattle.report.specs.ReportCall.{planLine, labelLine, faultLine}
+use Rattle.report.specs.ReportCall.{planLine, labelLine, faultReportLine}
 use Rattle.simulation.proofs.RowBounds.{rows-in-range}
 use Rattle.planner.proofs.FaultRows.{fault-count}
-use Rattle.simulation.proofs.Counts.{faults-counted}
+use Rattle.netlist.proofs.Counts.{faults-counted}
 use Rattle.report.proofs.ReportLaws.{labels-room, faults-room, plan-written}
 use Rattle.report.proofs.ReportLines.{spectrum-left, spectrum-ready, label-lines-same, plan-length, plan-read, read-room, read-written}
 use Rattle.report.proofs.plan_lines_by.Statement.{statement}
@@ -111,7 +111,7 @@ unfolding netlistOf
 returns c =
     let s = c .before .before .before .before .before .before .before .before .before .before .before .before .before .before .before .before .before .before .before .before .before .before .before .before in
     let labels = s .args .labels .now in
-    let line = faultLine (soundRows (n s)) (faultedRows (n s)) labels in
+    let line = faultReportLine (soundRows (n s)) (faultedRows (n s)) labels in
     let count = fault-count (n s) ∙ faults-counted (s .args .c) (s .pre .0 .0) (search (needs, length-mapped)) in
     let l = c .before .before .before .before .before .before .before .before .before .label-lines in
     plan-written (n s) (s .pre .0 .1) labels (s .pre .0 .2) (s .pre .0 .3) (s .args .out .now) (s .pre .1 .2) (first (c .before .before .before .before .before .before .before .before .before .before .before .before .before .before)) (second (c .before .before .before .before .before .before .before .before .before))

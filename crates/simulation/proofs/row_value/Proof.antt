@@ -9,11 +9,12 @@ use mir.Syntax.{w16, w32}
 use mir.Val.{ofZ}
 use mir.ValLaws.{toZ-ofZ}
 use Rattle.integer.specs.Sum.{sumTo}
-use Rattle.integer.proofs.Machine.{reads as read-back, add-fits, add-is}
+use Rattle.integer.proofs.Machine.{reads-back, add-fits, add-is}
 use Rattle.integer.proofs.Tabs.{length-mapped}
 use Rattle.statements.specs.Items.{noOutput}
 use Rattle.simulation.specs.Rows.{weighed}
-use Rattle.simulation.specs.Steps.{shownAt, readTerm, readSum}
+use Rattle.gates.specs.Steps.{shownAt}
+use Rattle.simulation.specs.Steps.{readTerm, readSum}
 use Rattle.simulation.proofs.RowValues.{sum-room, sum-more, sum-small}
 use Rattle.simulation.proofs.row_value.Statement.{statement}
 use Rattle.simulation.proofs.row_value.Tie as tie
@@ -96,7 +97,7 @@ returns c =
     let a = s .args in
     let t = readTerm (a .values .now) (a .t2) (a .x) in
     let n : l .k ≡ a .count = omega arith in
-    read-back w32 (sumTo (l .k) t) (l .inv .2) (omega (arith, s .pre .1, l .inv .3)) ∙ ap (λ (k : ℕ). sumTo k t) n
+    reads-back w32 (sumTo (l .k) t) (l .inv .2) (omega (arith, s .pre .1, l .inv .3)) ∙ ap (λ (k : ℕ). sumTo k t) n
 
 pub row-value-spec : {M : Type 1} → statement M
 row-value-spec =

@@ -6,12 +6,12 @@ use native.Mathlib.Omega.{arith}
 use lib.ListN.{length}
 use Rattle.integer.proofs.Tabs.{length-mapped}
 use Rattle.simulation.proofs.Columns.{blank-columns}
-use Rattle.simulation.proofs.RowValues.{rows-few, rows-read}
+use Rattle.simulation.proofs.RowValues.{row-count-few, rows-read}
 use Rattle.simulation.proofs.rows.Statement.{statement}
 use Rattle.simulation.proofs.rows.Tie as tie
 
 few : (s : tie.Start) → length (s .args .out .now) ≤ 256
-few s = omega (arith, s .pre .1, rows-few (s .args .c) (s .pre .0))
+few s = omega (arith, s .pre .1, row-count-few (s .args .c) (s .pre .0))
 
 outputs : (s : tie.Start) → length (s .args .c .outputs) ≡ 4
 outputs s = search (needs, length-mapped)

@@ -1,7 +1,7 @@
 -- What the definition asks of the line is what was read and tested, in that order.
 use mathlib.Core.Path.{refl, sym}
 use borrow.Author.Needs.{needs}
-use Rattle.statements.specs.Lines.{faultRefusal, faultFits, pairFits, linesExist, linesRise, risesAt, faultOf, stuckAt}
+use Rattle.statements.specs.Lines.{faultRefusal, faultFits, pairFits, linesExist, linesRise, risesAt, faultOf, pairAt}
 use Rattle.statements.proofs.fault_line.Statement.{statement}
 use Rattle.statements.proofs.fault_line.Tie as tie
 
@@ -38,13 +38,22 @@ cast-exist-2 c = search needs
 cast-exist-3 : tie.Need-cast-exist-3
 cast-exist-3 c = search needs
 
-refusal-requires : tie.Need-refusal-requires
-refusal-requires c κs = search needs
+number-unless-requires : tie.Need-number-unless-requires
+number-unless-requires c κs = search needs
+
+number-unless-requires-2 : tie.Need-number-unless-requires-2
+number-unless-requires-2 c κs = search needs
+
+number-unless-requires-3 : tie.Need-number-unless-requires-3
+number-unless-requires-3 c κs = search needs
+
+number-unless-requires-4 : tie.Need-number-unless-requires-4
+number-unless-requires-4 c κs = search needs
 
 returns : tie.Need-returns
-unfolding faultRefusal faultFits pairFits linesExist linesRise risesAt faultOf stuckAt
+unfolding faultRefusal faultFits pairFits linesExist linesRise risesAt faultOf pairAt
 returns c =
-    let tests = c .before .before .before .before .before .before .before .before .before .before .before in
+    let tests = c .before .before .before .before .before .before .before .before .before .before .before .before .before .before in
     let read = tests .before .before .before .before in
     let p = read .before .before .pair-at .ensures in
     let q = read .before .pair-at2 .ensures in
@@ -61,7 +70,10 @@ returns c =
       sym (tests .before .before .pair-in-range .ensures),
       sym (tests .before .pair-in-range2 .ensures),
       sym (tests .pair-in-range3 .ensures),
-      sym (c .before .before .before .refusal .ensures),
+      sym (c .before .before .before .before .before .before .number-unless .ensures),
+      sym (c .before .before .before .before .before .number-unless2 .ensures),
+      sym (c .before .before .before .before .number-unless3 .ensures),
+      sym (c .before .before .before .number-unless4 .ensures),
     ) (refl, refl)
 
 pub fault-line-spec : {M : Type 1} → statement M
@@ -79,5 +91,8 @@ fault-line-spec =
     cast-exist
     cast-exist-2
     cast-exist-3
-    refusal-requires
+    number-unless-requires
+    number-unless-requires-2
+    number-unless-requires-3
+    number-unless-requires-4
     returns)

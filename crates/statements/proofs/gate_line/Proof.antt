@@ -1,7 +1,8 @@
 -- What the definition asks of the line is what was read and tested, in that order.
 use mathlib.Core.Path.{refl, sym}
 use borrow.Author.Needs.{needs}
-use Rattle.statements.specs.Lines.{gateRefusal, isGate, gateFits, fits, readsBelow, gateOf}
+use Rattle.statements.specs.Lines.{gateRefusal, isGate, gateFits, readsBelow, gateOf}
+use Rattle.fields.specs.Fields.{fits}
 use Rattle.statements.proofs.gate_line.Statement.{statement}
 use Rattle.statements.proofs.gate_line.Tie as tie
 
@@ -41,22 +42,30 @@ cast-below c = search needs
 cast-below-2 : tie.Need-cast-below-2
 cast-below-2 c = search needs
 
-refusal-requires : tie.Need-refusal-requires
-refusal-requires c κs = search needs
+number-unless-requires : tie.Need-number-unless-requires
+number-unless-requires c κs = search needs
+
+number-unless-requires-2 : tie.Need-number-unless-requires-2
+number-unless-requires-2 c κs = search needs
+
+number-unless-requires-3 : tie.Need-number-unless-requires-3
+number-unless-requires-3 c κs = search needs
 
 returns : tie.Need-returns
 unfolding gateRefusal isGate gateFits fits readsBelow gateOf
 returns c =
-    let read = c .before .before .before .before .before .before .before in
+    let read = c .before .before .before .before .before .before .before .before .before in
     simp (
       sym (rw (read .before .before .before .field .ensures .0) at (read .before .before .kind-of .ensures)),
       sym (read .before .value-at .ensures .0),
       sym (read .value-at2 .ensures .0),
-      sym (c .before .before .before .before .before .is-line .ensures),
-      sym (rw (c .before .before .before .before .field2 .ensures .0) at (c .before .before .before .is-kind .ensures)),
-      sym (c .before .before .in-range .ensures),
-      sym (c .before .second-in-range .ensures),
-      sym (c .refusal .ensures),
+      sym (c .before .before .before .before .before .before .before .is-line .ensures),
+      sym (rw (c .before .before .before .before .before .before .field2 .ensures .0) at (c .before .before .before .before .before .is-kind .ensures)),
+      sym (c .before .before .before .before .in-range .ensures),
+      sym (c .before .before .before .second-in-range .ensures),
+      sym (c .before .before .number-unless .ensures),
+      sym (c .before .number-unless2 .ensures),
+      sym (c .number-unless3 .ensures),
     ) (refl, refl)
 
 pub gate-line-spec : {M : Type 1} → statement M
@@ -75,5 +84,7 @@ gate-line-spec =
     second-in-range-requires
     cast-below
     cast-below-2
-    refusal-requires
+    number-unless-requires
+    number-unless-requires-2
+    number-unless-requires-3
     returns)

@@ -4,7 +4,8 @@ use native.Mathlib.Omega.{arith}
 use mir.Syntax.{w16}
 use mir.ValLaws.{toZ-pos}
 use borrow.Author.Needs.{needs}
-use Rattle.statements.specs.Lines.{outputRefusal, isOutput, outputFits, fits, outputOf}
+use Rattle.statements.specs.Lines.{outputRefusal, isOutput, outputFits, outputOf}
+use Rattle.fields.specs.Fields.{fits}
 use Rattle.statements.proofs.output_line.Statement.{statement}
 use Rattle.statements.proofs.output_line.Tie as tie
 
@@ -29,23 +30,31 @@ in-range-requires-2 c κs = search needs
 cast-exist : tie.Need-cast-exist
 cast-exist c = search needs
 
-refusal-requires : tie.Need-refusal-requires
-refusal-requires c κs = search needs
+number-unless-requires : tie.Need-number-unless-requires
+number-unless-requires c κs = search needs
 
-cast-t15 : tie.Need-cast-t15
-cast-t15 c = search needs
+number-unless-requires-2 : tie.Need-number-unless-requires-2
+number-unless-requires-2 c κs = search needs
+
+number-unless-requires-3 : tie.Need-number-unless-requires-3
+number-unless-requires-3 c κs = search needs
+
+cast-t17 : tie.Need-cast-t17
+cast-t17 c = search needs
 
 returns : tie.Need-returns
 unfolding outputRefusal isOutput outputFits fits outputOf
 returns c =
-    let w = c .before .before .before .before .before .value-at2 in
+    let w = c .before .before .before .before .before .before .before .value-at2 in
     simp (
-      sym (c .before .before .before .before .before .before .value-at .ensures .0),
+      sym (c .before .before .before .before .before .before .before .before .value-at .ensures .0),
       sym (w .ensures .0),
-      sym (c .before .before .before .is-line .ensures),
-      sym (c .before .before .in-range .ensures),
-      sym (c .before .in-range2 .ensures),
-      sym (c .refusal .ensures),
+      sym (c .before .before .before .before .before .is-line .ensures),
+      sym (c .before .before .before .before .in-range .ensures),
+      sym (c .before .before .before .in-range2 .ensures),
+      sym (c .before .before .number-unless .ensures),
+      sym (c .before .number-unless2 .ensures),
+      sym (c .number-unless3 .ensures),
       toZ-pos w16 (w .result) (omega (arith, w .ensures .1)),
     ) (refl, refl)
 
@@ -60,6 +69,8 @@ output-line-spec =
     in-range-requires
     in-range-requires-2
     cast-exist
-    refusal-requires
-    cast-t15
+    number-unless-requires
+    number-unless-requires-2
+    number-unless-requires-3
+    cast-t17
     returns)

@@ -4,7 +4,7 @@ use mathlib.Core.List.{[], _∷_}
 use types.Run.{miss}
 use borrow.Author.Needs.{needs}
 use Rattle.statements.specs.Lines.{secondFits}
-use Rattle.statements.proofs.LineTests.{second-read}
+use Rattle.statements.proofs.SecondLines.{second-read}
 use Rattle.statements.proofs.second_in_range.Statement.{statement}
 use Rattle.statements.proofs.second_in_range.Tie as tie
 

@@ -11,7 +11,7 @@ use Rattle.integer.proofs.Machine.{widens}
 use Rattle.integer.specs.Tab.{tab, nth}
 use Rattle.integer.proofs.Tabs.{filled, write-turn}
 use Rattle.cover.specs.Cover.{allBelow, sameAt, silent}
-use Rattle.cover.specs.Steps.{differenceAt, differences}
+use Rattle.cover.specs.Steps.{rowDifferenceAt, differences}
 use Rattle.cover.proofs.Marking.{less-fits, less-kept, less-none, all-more}
 use native.Mathlib.Omega.{arith}
 use Rattle.cover.proofs.marks.differ.Statement.{statement}
@@ -19,7 +19,7 @@ use Rattle.cover.proofs.marks.differ.Tie as tie
 
 abbrev Inv-loop : tie.InvT-loop
 Inv-loop sound faulted out₀ same₀ i₀ out same i =
-    (i ≤ length sound) × (length out ≡ length out₀) × (out ≡ tab i (differenceAt sound faulted) ++ drop i out₀) × (same ≡ allBelow (sameAt sound faulted) i)
+    (i ≤ length sound) × (length out ≡ length out₀) × (out ≡ tab i (rowDifferenceAt sound faulted) ++ drop i out₀) × (same ≡ allBelow (sameAt sound faulted) i)
 
 abbrev μ-loop : tie.MeasureT-loop
 μ-loop sound faulted out₀ same₀ i₀ out same i = length sound - i
@@ -76,12 +76,12 @@ loop-less : tie.Need-loop-less Inv-loop μ-loop
 loop-less c = search needs
 
 loop-again : tie.Need-loop-again Inv-loop μ-loop
-unfolding sameAt differenceAt
+unfolding sameAt rowDifferenceAt
 loop-again c =
     let l = c .before .before .before in
     let a = l .before .args in
     let i = l .loop .i in
-    let f = differenceAt (a .sound .now) (a .faulted .now) in (
+    let f = rowDifferenceAt (a .sound .now) (a .faulted .now) in (
       search needs,
       simp length-set (l .loop .inv .1),
       write-turn (a .out .now) (l .loop .out) f i _ (omega arith) (l .loop .inv .2) (less-kept (A c) (B c) (fits-a c) (fits-b c)),
@@ -96,7 +96,7 @@ unfolding silent differences
 returns c =
     let l = c .before in
     let a = l .before .args in
-    let f = differenceAt (a .sound .now) (a .faulted .now) in
+    let f = rowDifferenceAt (a .sound .now) (a .faulted .now) in
     let e : l .loop .i ≡ length (a .sound .now) = omega arith in
     let same = l .before .pre .1 in (
       l .loop .inv .3 ∙ ap (allBelow (sameAt (a .sound .now) (a .faulted .now))) e,

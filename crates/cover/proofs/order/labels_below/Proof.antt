@@ -5,8 +5,8 @@ use mathlib.Core.Logic.{⊎-elim}
 use Prim.Native.Nat.{_-_, _≤_}
 use lib.ListN.{length, length-set, take}
 use Rattle.cover.specs.Order.{keep}
-use Rattle.cover.proofs.LabelOrder.{order-length, order-below, labels-to, listed, passed, all-listed}
-use Rattle.cover.proofs.Table.{table, table-at}
+use Rattle.cover.proofs.LabelOrder.{order-length, order-below, labels-to, listed, label-passed, all-listed}
+use Rattle.cover.proofs.Table.{labelTable, table-at}
 use native.Mathlib.Omega.{arith}
 use Rattle.cover.proofs.order.labels_below.Statement.{statement}
 use Rattle.cover.proofs.order.labels_below.Tie as tie
@@ -28,7 +28,7 @@ array-read-label : tie.Need-array-read-label Inv-loop μ-loop
 array-read-label c = search needs
 
 cast-if1 : tie.Need-cast-if1 Inv-loop μ-loop
-unfolding table
+unfolding labelTable
 cast-if1 c = let i = c .before .loop .i in record { fits = omega (arith, table-at i, order-below i (omega (arith, order-length))) }
 
 mul-labels : tie.Need-mul-labels Inv-loop μ-loop
@@ -47,7 +47,7 @@ loop-less : tie.Need-loop-less Inv-loop μ-loop
 loop-less c = search needs
 
 loop-again : tie.Need-loop-again Inv-loop μ-loop
-unfolding table
+unfolding labelTable
 loop-again c =
     let l = c .before .before in
     let n = l .before .args .n in
@@ -65,7 +65,7 @@ loop-again c =
       omega arith,
       omega (arith, w .2),
       ap length (w .1) ∙ s .2,
-      ap₂ take (w .2) (w .1) ∙ passed n i _ (l .loop .count) (l .loop .labels) h (table-at i) (s .3) (w .0 .left),
+      ap₂ take (w .2) (w .1) ∙ label-passed n i _ (l .loop .count) (l .loop .labels) h (table-at i) (s .3) (w .0 .left),
     ))
     (c .if1 .came)
 

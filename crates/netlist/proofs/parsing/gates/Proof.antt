@@ -1,16 +1,16 @@
--- The invariant is `Reading`: what all the lines say is what the lines from `at` on say, after the j read so far.
+-- The invariant is `ReadSoFar`: what all the lines say is what the lines from `at` on say, after the j read so far.
 use borrow.Author.Needs.{needs}
 use denote.Ref.{now}
 use native.Mathlib.Omega.{arith}
 use Prim.Native.Nat.{_-_}
 use Rattle.statements.specs.Lines.{gateOf}
 use Rattle.netlist.specs.Parsing.{nthGateRefusal}
-use Rattle.netlist.proofs.LineLoops.{Reading, begun, turned, missing, declined, finished}
+use Rattle.sections.proofs.LineLoops.{ReadSoFar, begun, turned, missing, declined, finished}
 use Rattle.netlist.proofs.parsing.gates.Statement.{statement}
 use Rattle.netlist.proofs.parsing.gates.Tie as tie
 
 abbrev Inv-loop : tie.InvT-loop
-Inv-loop text from inputs count gates₀ at₀ j₀ gates at j = Reading (nthGateRefusal inputs) gateOf text from 2 count 48 gates j at
+Inv-loop text from inputs count gates₀ at₀ j₀ gates at j = ReadSoFar (nthGateRefusal inputs) gateOf text from 2 count 48 gates j at
 
 abbrev μ-loop : tie.MeasureT-loop
 μ-loop text from inputs count gates₀ at₀ j₀ gates at j = count - j

@@ -1,16 +1,16 @@
--- The invariant is `Reading`: what all the lines say is what the lines from `at` on say, after the j read so far.
+-- The invariant is `ReadSoFar`: what all the lines say is what the lines from `at` on say, after the j read so far.
 use borrow.Author.Needs.{needs}
 use denote.Ref.{now}
 use native.Mathlib.Omega.{arith}
 use Prim.Native.Nat.{_-_}
 use Rattle.statements.specs.Lines.{outputOf}
 use Rattle.netlist.specs.Parsing.{nthOutputRefusal}
-use Rattle.netlist.proofs.LineLoops.{Reading, begun, turned, missing, declined, finished}
+use Rattle.sections.proofs.LineLoops.{ReadSoFar, begun, turned, missing, declined, finished}
 use Rattle.netlist.proofs.parsing.outputs.Statement.{statement}
 use Rattle.netlist.proofs.parsing.outputs.Tie as tie
 
 abbrev Inv-loop : tie.InvT-loop
-Inv-loop text from top count place outputs₀ at₀ j₀ outputs at j = Reading (nthOutputRefusal top) outputOf text from place count 4 outputs j at
+Inv-loop text from top count place outputs₀ at₀ j₀ outputs at j = ReadSoFar (nthOutputRefusal top) outputOf text from place count 4 outputs j at
 
 abbrev μ-loop : tie.MeasureT-loop
 μ-loop text from top count place outputs₀ at₀ j₀ outputs at j = count - j

@@ -11,14 +11,14 @@ use Rattle.integer.proofs.Tabs.{length-mapped}
 use Rattle.netlist.specs.Circuits.{netlistOf}
 use Rattle.simulation.specs.Rows.{rowsOf}
 use Rattle.planner.specs.PlanCall.{soundRows, faultedRows}
-use Rattle.simulation.proofs.Counts.{faults-counted}
-use Rattle.planner.proofs.PlanLaws.{Heard, Turn, heard-none, heard-stop, heard-more, heard-all, may-mark}
+use Rattle.netlist.proofs.Counts.{faults-counted}
+use Rattle.planner.proofs.PlanLaws.{MarkedBelow, Turn, marked-none, marked-silent, marked-one-more, marked-all, may-mark}
 use Rattle.planner.proofs.plan_call.mark_faults.Statement.{statement}
 use Rattle.planner.proofs.plan_call.mark_faults.Tie as tie
 
 abbrev Inv-loop : tie.InvT-loop
 Inv-loop c sound faulted₀ labels masks₀ inputs count f₀ faulted masks f =
-    (f ≤ count) × (count ≡ c .head .faults) × (inputs ≡ c .head .inputs) × (length faulted ≡ length faulted₀) × (length masks ≡ length masks₀) × Heard (netlistOf c) f masks
+    (f ≤ count) × (count ≡ c .head .faults) × (inputs ≡ c .head .inputs) × (length faulted ≡ length faulted₀) × (length masks ≡ length masks₀) × MarkedBelow (netlistOf c) f masks
 
 abbrev μ-loop : tie.MeasureT-loop
 μ-loop c sound faulted₀ labels masks₀ inputs count f₀ faulted masks f = count - f
@@ -48,7 +48,7 @@ unfolding netlistOf
 loop-holds c =
     let a = c .before .before .before .before .before .before .before .args in
     let e = c .before .before .before .clear .ensures in
-    (search needs, search needs, search needs, search needs, search needs, heard-none (netlistOf (a .c)) (c .before .before .before .clear .last .0) (length (now (a .masks))) (c .before .before .before .before .before .before .before .pre .0 .3) e)
+    (search needs, search needs, search needs, search needs, search needs, marked-none (netlistOf (a .c)) (c .before .before .before .clear .last .0) (length (now (a .masks))) (c .before .before .before .before .before .before .before .pre .0 .3) e)
 
 add-fault-at : tie.Need-add-fault-at Inv-loop μ-loop
 add-fault-at c = search needs
@@ -77,7 +77,7 @@ returns : tie.Need-returns Inv-loop μ-loop
 unfolding netlistOf
 returns c =
     let r = c .before .before .before in
-    (heard-stop (turn (r .before)) (sym (r .mark .ensures .0) ∙ c .if1 .taken), λ e. absurd (omega arith))
+    (marked-silent (turn (r .before)) (sym (r .mark .ensures .0) ∙ c .if1 .taken), λ e. absurd (omega arith))
 
 add-f : tie.Need-add-f Inv-loop μ-loop
 add-f c = search needs
@@ -89,7 +89,7 @@ loop-again : tie.Need-loop-again Inv-loop μ-loop
 unfolding netlistOf
 loop-again c =
     let r = c .before .before .before in
-    (search needs, search needs, search needs, search needs, search needs, heard-more (turn (r .before)) (r .mark .last .1 .1 .1 .1 .1 .0) (sym (r .mark .ensures .0) ∙ c .if1 .left) (r .mark .ensures .1 (c .if1 .left)))
+    (search needs, search needs, search needs, search needs, search needs, marked-one-more (turn (r .before)) (r .mark .last .1 .1 .1 .1 .1 .0) (sym (r .mark .ensures .0) ∙ c .if1 .left) (r .mark .ensures .1 (c .if1 .left)))
 
 same-length-3 : tie.Need-same-length-3 Inv-loop μ-loop
 same-length-3 c = search needs
@@ -103,7 +103,7 @@ returns-2 c =
     let s = c .before .before .before .before .before .before .before .before .before in
     let l = c .before .loop in
     let n = netlistOf (s .args .c) in
-    (heard-all n (l .f) (l .masks) (omega (arith, count s, c .loop-test .left, l .inv .0, l .inv .1)) (l .inv .5), λ e. l .inv .5 .marks ∙ ap (masksOf (soundRows n) (faultedRows n) (labelsBelow (2 ^ n .inputs))) e)
+    (marked-all n (l .f) (l .masks) (omega (arith, count s, c .loop-test .left, l .inv .0, l .inv .1)) (l .inv .5), λ e. l .inv .5 .marks ∙ ap (masksOf (soundRows n) (faultedRows n) (labelsBelow (2 ^ n .inputs))) e)
 
 pub mark-faults-spec : {M : Type 1} → statement M
 mark-faults-spec =

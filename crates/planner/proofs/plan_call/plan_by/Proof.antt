@@ -8,15 +8,15 @@ use Rattle.integer.proofs.Tabs.{length-mapped}
 use Rattle.netlist.specs.Circuits.{netlistOf}
 use Rattle.simulation.specs.Rows.{rowsOf}
 use Rattle.planner.specs.PlanCall.{planNumbers}
-use Rattle.simulation.proofs.Counts.{faults-counted}
-use Rattle.planner.proofs.PlanLaws.{Ready, all-loud, may-find, plan-silent, plan-none, plan-found}
+use Rattle.netlist.proofs.Counts.{faults-counted}
+use Rattle.planner.proofs.PlanLaws.{AllMarked, first-silent-count, may-find, verdict-silent, verdict-none, verdict-found}
 use Rattle.planner.proofs.plan_call.plan_by.Statement.{statement}
 use Rattle.planner.proofs.plan_call.plan_by.Tie as tie
 
 count : (s : tie.Start) → length (netlistOf (s .args .c) .faults) ≡ s .args .c .head .faults
 count s = faults-counted (s .args .c) (s .pre .0 .0) (search (needs, length-mapped))
 
-ready : (t : tie.Else1) → Ready (netlistOf (t .before .before .before .before .before .before .before .before .before .before .before .before .before .before .args .c)) (t .before .before .before .before .before .before .before .before .before .before .before .before .before .before .args .c .head .faults) (now (t .before .before .before .before .before .before .before .before .before .before .before .before .before .before .args .labels)) (t .before .before .before .before .mark-faults .last .1 .1 .1 .1 .0)
+ready : (t : tie.Else1) → AllMarked (netlistOf (t .before .before .before .before .before .before .before .before .before .before .before .before .before .before .args .c)) (t .before .before .before .before .before .before .before .before .before .before .before .before .before .before .args .c .head .faults) (now (t .before .before .before .before .before .before .before .before .before .before .before .before .before .before .args .labels)) (t .before .before .before .before .mark-faults .last .1 .1 .1 .1 .0)
 unfolding netlistOf
 ready t =
     let s = t .before .before .before .before .before .before .before .before .before .before .before .before .before .before in
@@ -26,9 +26,9 @@ ready t =
     record {
       right = s .pre .0 .1;
       count = count s;
-      loud = omega (arith, t .if1 .left, m .ensures .0);
+      none-silent = omega (arith, t .if1 .left, m .ensures .0);
       labels-are = s .pre .1;
-      masks-are = m .ensures .1 (all-loud n q (m .result) (count s) (m .ensures .0) (t .if1 .left));
+      masks-are = m .ensures .1 (first-silent-count n q (m .result) (count s) (m .ensures .0) (t .if1 .left));
     }
 
 fault-at-requires : tie.Need-fault-at-requires
@@ -63,7 +63,7 @@ unfolding netlistOf
 returns c =
     let m = c .before .before .before .before .before in
     let n = netlistOf (m .before .before .before .before .before .before .before .before .before .before .args .c) in
-    c .refuse .ensures ∙ ap planNumbers (plan-silent n (m .mark-faults .result) (m .mark-faults .ensures .0) (omega (arith, count (m .before .before .before .before .before .before .before .before .before .before), c .before .if1 .taken)))
+    c .refuse .ensures ∙ ap planNumbers (verdict-silent n (m .mark-faults .result) (m .mark-faults .ensures .0) (omega (arith, count (m .before .before .before .before .before .before .before .before .before .before), c .before .if1 .taken)))
 
 cast-find : tie.Need-cast-find
 cast-find c = search needs
@@ -88,7 +88,7 @@ same-length-6 c = search needs
 returns-2 : tie.Need-returns-2
 unfolding netlistOf
 returns-2 c =
-    c .refuse2 .ensures ∙ plan-none (ready (c .before .before .before .before)) (c .before .before .find .result) (c .before .before .find .ensures) (c .before .if2 .taken)
+    c .refuse2 .ensures ∙ verdict-none (ready (c .before .before .before .before)) (c .before .before .find .result) (c .before .before .find .ensures) (c .before .if2 .taken)
 
 same-length-7 : tie.Need-same-length-7
 same-length-7 c = search needs
@@ -102,7 +102,7 @@ same-length-9 c = search needs
 returns-3 : tie.Need-returns-3
 unfolding netlistOf
 returns-3 c =
-    plan-found (ready (c .before .before .before .before)) (c .before .before .find .result) (c .before .before .find .ensures) (c .before .if2 .left)
+    verdict-found (ready (c .before .before .before .before)) (c .before .before .find .result) (c .before .before .find .ensures) (c .before .if2 .left)
 
 pub plan-by-spec : {M : Type 1} → statement M
 plan-by-spec =

@@ -6,7 +6,7 @@ use mathlib.Core.Path.{_≡_, sym, _∙_}
 use denote.Ref.{now}
 use lib.ListN.{length}
 use lib.Seq.{length-take-le}
-use Rattle.simulation.proofs.Counts.{due, due-is, due-few, due-fits}
+use Rattle.netlist.proofs.Counts.{due, due-is, due-few, due-fits}
 use Rattle.planner.proofs.PlanLaws.{front-labels, front-used}
 use Rattle.planner.proofs.plan_call.plan_circuit.Statement.{statement}
 use Rattle.planner.proofs.plan_call.plan_circuit.Tie as tie

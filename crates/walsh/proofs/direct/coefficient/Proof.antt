@@ -6,10 +6,11 @@ use lib.IntN.{pos}
 use lib.ListN.{length}
 use mir.Syntax.{w32}
 use mir.ValLaws.{toZ-ofZ}
-use Rattle.walsh.specs.Answers.{minus, found, foundOf, screenOf}
-use Rattle.walsh.specs.Spectrum.{coefficientOf}
-use Rattle.walsh.specs.declared.Answer.{Answer}
-use Rattle.walsh.proofs.Screens.{screen-done, inputs-size, screened-within}
+use Rattle.screen.specs.Answers.{minus, screenOf}
+use Rattle.walsh.specs.Coefficients.{found, foundOf}
+use Rattle.transform.specs.Spectrum.{coefficientOf}
+use Rattle.screen.specs.declared.Answer.{Answer}
+use Rattle.screen.proofs.Screens.{screen-done, inputs-size, screened-within}
 use Rattle.walsh.proofs.direct.coefficient.Statement.{statement}
 use Rattle.walsh.proofs.direct.coefficient.Tie as tie
 

@@ -7,13 +7,13 @@ use mir.Syntax.{w32}
 use mir.Val.{toZ, ofZ}
 use mir.ValLaws.{toZ-ofZ}
 use Rattle.integer.specs.Tab.{nth}
-use Rattle.walsh.specs.Spectrum.{signedSum, coefficientOf}
+use Rattle.transform.specs.Spectrum.{signedSum, coefficientOf}
 use native.Mathlib.Omega.{arith}
 use mathlib.Core.Logic.{⊎-elim}
 use Rattle.integer.specs.Sum.{sumTo}
 use Rattle.integer.proofs.Bounds.{sfits-abs}
 use Rattle.integer.proofs.Machine.{add-is, sub-is, add-fits, sub-fits}
-use Rattle.walsh.proofs.Terms.{sum-le, term-room, more-even, more-odd}
+use Rattle.transform.proofs.Terms.{sum-le, term-room, more-even, more-odd}
 use Rattle.walsh.proofs.direct.signed_sum.Statement.{statement}
 use Rattle.walsh.proofs.direct.signed_sum.Tie as tie
 

@@ -6,12 +6,12 @@ use mathlib.Core.Bool.{true}
 use lib.IntN.{pos}
 use lib.ListN.{length}
 use lib.Seq.{length-take-le}
-use Rattle.walsh.specs.Answers.{andThen, minus, screenOf}
+use Rattle.screen.specs.Answers.{andThen, minus, screenOf}
 use Rattle.walsh.specs.Lists.{dividedAnswer, rowsAnswer}
-use Rattle.walsh.specs.Spectrum.{spectrumOf}
-use Rattle.walsh.specs.declared.Answer.{Answer}
-use Rattle.walsh.specs.declared.Answer.the-variants.{Done}
-use Rattle.walsh.proofs.Screens.{Ready, ready}
+use Rattle.transform.specs.Spectrum.{spectrumOf}
+use Rattle.screen.specs.declared.Answer.{Answer}
+use Rattle.screen.specs.declared.Answer.the-variants.{Done}
+use Rattle.screen.proofs.Screens.{Ready, ready}
 use Rattle.walsh.proofs.lists.rows.Statement.{statement}
 use Rattle.walsh.proofs.lists.rows.Tie as tie
 

@@ -8,11 +8,11 @@ use lib.IntN.{ℤ, pos}
 use lib.ListN.{length}
 use lib.Pow.{pow-pos}
 use Rattle.integer.specs.Tab.{Within}
-use Rattle.walsh.specs.Answers.{leaves, minus}
-use Rattle.walsh.specs.Lists.{dividedAnswer, quotientsOf, rowsOf}
-use Rattle.walsh.specs.Spectrum.{spectrumOf}
-use Rattle.walsh.proofs.Spectra.{length-spectrum}
-use Rattle.walsh.proofs.Screens.{power-few}
+use Rattle.screen.specs.Answers.{leaves, minus}
+use Rattle.walsh.specs.Lists.{dividedAnswer, quotientsOf, inverseRows}
+use Rattle.transform.specs.Spectrum.{spectrumOf}
+use Rattle.transform.proofs.Spectra.{length-spectrum}
+use Rattle.screen.proofs.Screens.{power-few}
 use Rattle.walsh.proofs.lists.rows_by.Statement.{statement}
 use Rattle.walsh.proofs.lists.rows_by.Tie as tie
 
@@ -50,7 +50,7 @@ same-length-2 : tie.Need-same-length-2
 same-length-2 c = search needs
 
 returns : tie.Need-returns
-unfolding rowsOf
+unfolding inverseRows
 returns c =
     let t = c .before .before .before .before .before in
     let n = length (S t .args .coefficients .now) in (

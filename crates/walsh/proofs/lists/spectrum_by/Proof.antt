@@ -8,10 +8,10 @@ use lib.IntN.{ℤ}
 use lib.ListN.{length}
 use Rattle.integer.specs.Tab.{Within}
 use Rattle.integer.proofs.Bounds.{within-more}
-use Rattle.walsh.specs.Answers.{written}
-use Rattle.walsh.specs.Spectrum.{spectrumOf}
-use Rattle.walsh.proofs.Spectra.{length-spectrum, within-spectrum}
-use Rattle.walsh.proofs.Screens.{power-few}
+use Rattle.screen.specs.Answers.{written}
+use Rattle.transform.specs.Spectrum.{spectrumOf}
+use Rattle.transform.proofs.Spectra.{length-spectrum, within-spectrum}
+use Rattle.screen.proofs.Screens.{power-few}
 use Rattle.walsh.proofs.lists.spectrum_by.Statement.{statement}
 use Rattle.walsh.proofs.lists.spectrum_by.Tie as tie
 

@@ -4,7 +4,7 @@ use borrow.Author.Needs.{needs}
 use mathlib.Core.Path.{_≡_, refl, sym, ap, _∙_}
 use native.Mathlib.Nat.{le-trans}
 use Rattle.walsh.specs.Lists.{firstUnfit}
-use Rattle.walsh.specs.declared.Answer.the-variants.{Refused}
+use Rattle.screen.specs.declared.Answer.the-variants.{Refused}
 use Rattle.walsh.proofs.Quotients.{unfit-back, divided-refused, fits-all, fit-done, within-quotients}
 use Rattle.walsh.proofs.work.divided.Statement.{statement}
 use Rattle.walsh.proofs.work.divided.Tie as tie

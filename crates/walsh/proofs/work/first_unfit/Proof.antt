@@ -12,8 +12,8 @@ use Rattle.walsh.specs.Lists.{unfit, unfitAt, firstUnfit, quotientOf}
 use native.Mathlib.Omega.{arith}
 use lib.Signed.{ltZ}
 use borrow.Author.Count.{below-more}
-use Rattle.walsh.specs.Answers.{outside}
-use Rattle.walsh.proofs.Screens.{outside-low, outside-high, outside-none}
+use Rattle.screen.specs.Answers.{outside}
+use Rattle.screen.proofs.Screens.{outside-low, outside-high, outside-none}
 use Rattle.walsh.proofs.Quotients.{quot-needs, quot-kept, rem-zero, zero-rem, unfit-left, unfit-whole, found-unfit, none-unfit, unfit-back}
 use Rattle.walsh.proofs.work.first_unfit.Statement.{statement}
 use Rattle.walsh.proofs.work.first_unfit.Tie as tie

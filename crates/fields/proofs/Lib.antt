@@ -1,0 +1,3 @@
+pub mod Chains
+pub mod LineTests
+pub mod PlainLines

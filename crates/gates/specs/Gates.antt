@@ -1,0 +1,29 @@
+-- The gate rule, what a line shows under a fault, and what is applied to an input (document 01, "Rows").
+use Prim.Native.Nat.{ℕ, _/_, _%_, _^_}
+use mathlib.Core.Bool.{Bool, not, cond, _&&_, _||_, xor}
+use lib.Dec.{eqb}
+use Rattle.statements.specs.declared.Fault.{Fault}
+use Rattle.kinds.specs.declared.Kind.{Kind}
+use Rattle.kinds.specs.declared.Kind.the-variants.{And, Or, Nand, Nor, Xor, Xnor, Not}
+use Rattle.statements.specs.declared.Pair.{Pair}
+
+-- "Gates have their usual truth values."
+unfoldable pub gateValue : Kind → Bool → Bool → Bool
+gateValue And a b = a && b
+gateValue Or a b = a || b
+gateValue Nand a b = not (a && b)
+gateValue Nor a b = not (a || b)
+gateValue Xor a b = xor a b
+gateValue Xnor a b = not (xor a b)
+gateValue Not a b = not a
+
+-- "each stuck line shows its VALUE to all readers and to the outputs, whatever was applied or computed; all pairs of a fault hold together"
+unfoldable pub stuckOr : Pair → ℕ → Bool → Bool
+stuckOr s line v = cond (eqb (s .line) line) (s .value) v
+
+unfoldable pub shown : Fault → ℕ → Bool → Bool
+shown f line v = stuckOr (f .first) line (stuckOr (f .second) line (stuckOr (f .third) line v))
+
+-- "bit i−1 (bit 0 is worth 1) is the value applied to input i"
+abbrev pub applied : ℕ → ℕ → Bool
+applied x i = eqb (x / 2 ^ i % 2) 1

@@ -1,0 +1,2 @@
+pub mod Spectrum
+pub mod Steps
