@@ -8,16 +8,11 @@ use lib.Dec.{ltb}
 use lib.IntN.{ℤ}
 use lib.ListN.{length}
 use Rattle.netlist.specs.Circuits.{Netlist, faultAt}
-use Rattle.netlist.specs.Parsing.{Parse, accepted, rejected, parseOf}
+use Rattle.netlist.specs.Parsing.{onParse, parseOf}
 use Rattle.simulation.specs.Rows.{rowsOf}
 use Rattle.transform.specs.Spectrum.{spectrumOf}
 use Rattle.screen.specs.declared.Answer.{Answer}
 use Rattle.screen.specs.declared.Answer.the-variants.{Done, Refused}
-
--- a text that is not accepted is refused by its own number and place, before the call's tests
-abbrev pub afterText : Parse → (Netlist → Answer) → Answer
-afterText (accepted n) next = next n
-afterText (rejected number place) next = Refused number place
 
 -- 8 unless there is room for 2^N coefficients
 unfoldable pub roomAnswer : ℕ → ℕ → Answer
@@ -26,16 +21,13 @@ roomAnswer inputs room = cond (ltb room (2 ^ inputs)) (Refused 8 0) Done
 unfoldable pub faultAnswer : ℕ → ℕ → Netlist → Answer
 faultAnswer fault room n = cond (ltb (length (n .faults)) fault) (Refused 12 0) (roomAnswer (n .inputs) room)
 
+-- a text that is not accepted is refused by its own number and place, before the call's tests
 unfoldable pub circuitAnswer : List ℕ → ℕ → ℕ → Answer
-circuitAnswer text fault room = afterText (parseOf text) (faultAnswer fault room)
+circuitAnswer text fault room = onParse (faultAnswer fault room) Refused (parseOf text)
 
 -- the coefficients of the rows under fault `fault`, sound for 0
 unfoldable pub faultSpectrum : Netlist → ℕ → List ℤ
 faultSpectrum n fault = spectrumOf (rowsOf n (faultAt n fault))
 
-abbrev pub spectrumIn : Parse → ℕ → List ℤ
-spectrumIn (accepted n) fault = faultSpectrum n fault
-spectrumIn (rejected number place) fault = []
-
 unfoldable pub circuitSpectrum : List ℕ → ℕ → List ℤ
-circuitSpectrum text fault = spectrumIn (parseOf text) fault
+circuitSpectrum text fault = onParse (λ n. faultSpectrum n fault) (λ number place. []) (parseOf text)

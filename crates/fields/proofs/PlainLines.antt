@@ -20,7 +20,7 @@ use Rattle.fields.specs.Fields.{inRange, valueAt, isLine, fits, isNumber
 use lib.IntN.{pos}
 use Rattle.writing.specs.Writing.{numbersOf}
 use Rattle.text.proofs.Words.{same-self}
-use Rattle.writing.proofs.WrittenLines.{Lacks, Small, first-field, next-field, next-count, word-field, line-count, natural-field}
+use Rattle.writing.proofs.LineFields.{Lacks, Small, first-field, next-field, next-count, word-field, line-count, natural-field}
 
 pub range : (v low high : ℕ) → inRange v low high ≡ true → (low ≤ v) × (v ≤ high)
 unfolding inRange

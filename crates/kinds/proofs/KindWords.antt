@@ -5,7 +5,7 @@ use Prim.Native.Nat.{_≤_}
 use native.Mathlib.Omega.{arith}
 use lib.ListN.{length}
 use Rattle.text.specs.Text.{comma, lineEnd, indexOf, sameBytes}
-use Rattle.writing.proofs.WrittenLines.{Lacks}
+use Rattle.writing.proofs.LineFields.{Lacks}
 use Rattle.kinds.specs.Kinds.{kindWord, isKind, kindOf}
 use Rattle.kinds.specs.declared.Kind.{Kind}
 use Rattle.kinds.specs.declared.Kind.the-variants.{And, Or, Nand, Nor, Xor, Xnor, Not}

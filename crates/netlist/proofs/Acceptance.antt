@@ -26,7 +26,7 @@ use Rattle.statements.specs.declared.Output.{Output}
 use Rattle.fields.proofs.Chains.{unless-passed}
 use Rattle.fields.proofs.PlainLines.{range, fits-range}
 use Rattle.sections.proofs.FaultsRight.{fault-right}
-use Rattle.sections.proofs.LinesSaid.{Said, lines-said}
+use Rattle.sections.proofs.LinesRead.{Said, lines-said}
 use Rattle.netlist.specs.Circuits.{Netlist, netlistOf}
 use Rattle.netlist.specs.Parsing.{gatesIn, outputsIn, faultsIn, Parse, accepted, rejected, onRead, endOf, bodyOf, parseOf, meaning, nthGateRefusal, nthOutputRefusal}
 use Rattle.sections.specs.Sections.{Read, items, lineRefused, lineRefusal}

@@ -4,7 +4,7 @@
 --   head-stop, head-passed                   the same for the text's length and first line
 --   meant                                    the parser's answer to a text that is refused
 use mathlib.Core.Path.{_≡_, sym, ap, _∙_}
-use mathlib.Core.List.{List, []}
+use mathlib.Core.List.{List}
 use Prim.Native.Nat.{ℕ, _+_, _-_, _<_, _≤_}
 use native.Mathlib.Omega.{arith}
 use lib.ListN.{length, take, drop, length-drop}
@@ -12,51 +12,56 @@ use borrow.Author.Tests.{lt-ltb, le-ltb, eq-eqb, ne-eqb}
 use Rattle.text.specs.Text.{textBytes, indexOf, before, lineEnd}
 use Rattle.text.proofs.Parts.{cut-before, cut-after, cut-has, cut-none}
 use Rattle.statements.specs.Lines.{headRefusal, headOf, gateOf, outputOf, faultOf}
-use Rattle.statements.specs.declared.Fault.{Fault}
-use Rattle.statements.specs.declared.Gate.{Gate}
 use Rattle.statements.specs.declared.Head.{Head}
-use Rattle.statements.specs.declared.Output.{Output}
 use Rattle.netlist.specs.Circuits.{netlistOf}
 use Rattle.netlist.specs.Parsing.{gatesIn, outputsIn, faultsIn, accepted, rejected, endOf, bodyOf, parseOf, meaning, nthGateRefusal, nthOutputRefusal}
-use Rattle.sections.specs.Sections.{linesOf, readOf}
 use Rattle.sections.specs.FaultLines.{nthFaultRefusal}
 use Rattle.netlist.specs.declared.Parsed.{Parsed}
-use Rattle.sections.proofs.LineLoops.{read-refused, read-done}
+use Rattle.sections.proofs.LineLoops.{Stage, stage-refused, stage-read}
 use Rattle.fields.specs.Fields.{unless}
 
 pub meant : (p : Parsed) {number place : ℕ} → p .number ≡ number → p .place ≡ place → (number ≡ 0 → ⊥) → meaning p ≡ rejected number place
 unfolding meaning
 meant p {number} {place} e k n = rw (e, k, ne-eqb number 0 n)
 
-module _ (h : Head) (text : List ℕ) (from gn gp ga : ℕ) (gl : List Gate) (g : readOf text (h .gates) gn gp ga gl ≡ linesOf (nthGateRefusal (h .inputs)) gateOf (h .gates) 2 (drop from text) []) where
-  pub gates-stop : (gn ≡ 0 → ⊥) → bodyOf h (drop from text) ≡ rejected gn gp
+-- the three stages, each behind the one before
+module _ (h : Head) (text : List ℕ) where
+  abbrev pub Gates : ℕ → Type 0
+  Gates from = Stage (nthGateRefusal (h .inputs)) gateOf text from 2 (h .gates)
+
+  abbrev pub Outputs : ℕ → Type 0
+  Outputs from = Stage (nthOutputRefusal (h .inputs + h .gates)) outputOf text from (h .gates + 2) (h .outputs)
+
+  abbrev pub Faults : ℕ → Type 0
+  Faults from = Stage (nthFaultRefusal (h .inputs + h .gates)) faultOf text from (h .gates + h .outputs + 2) (h .faults)
+
+module _ (h : Head) {text : List ℕ} {from : ℕ} (g : Gates h text from) where
+  pub gates-stop : (g .number ≡ 0 → ⊥) → bodyOf h (drop from text) ≡ rejected (g .number) (g .place)
   unfolding bodyOf gatesIn
-  gates-stop n = rw (sym g, read-refused text (h .gates) gn gp ga gl n)
+  gates-stop n = rw (stage-refused g n)
 
-  module _ (gz : gn ≡ 0) (on op oa : ℕ) (ol : List Output)
-      (o : readOf text (h .outputs) on op oa ol ≡ linesOf (nthOutputRefusal (h .inputs + h .gates)) outputOf (h .outputs) (h .gates + 2) (drop ga text) []) where
-    pub outputs-stop : (on ≡ 0 → ⊥) → bodyOf h (drop from text) ≡ rejected on op
+  module _ (gates-read : g .number ≡ 0) (o : Outputs h text (g .at)) where
+    pub outputs-stop : (o .number ≡ 0 → ⊥) → bodyOf h (drop from text) ≡ rejected (o .number) (o .place)
     unfolding bodyOf gatesIn outputsIn
-    outputs-stop n = rw (sym g, read-done text (h .gates) gn gp ga gl gz, sym o, read-refused text (h .outputs) on op oa ol n)
+    outputs-stop n = rw (stage-read g gates-read, stage-refused o n)
 
-    module _ (oz : on ≡ 0) (fn fp fa : ℕ) (fl : List Fault)
-        (f : readOf text (h .faults) fn fp fa fl ≡ linesOf (nthFaultRefusal (h .inputs + h .gates)) faultOf (h .faults) (h .gates + h .outputs + 2) (drop oa text) []) where
-      pub faults-stop : (fn ≡ 0 → ⊥) → bodyOf h (drop from text) ≡ rejected fn fp
+    module _ (outputs-read : o .number ≡ 0) (f : Faults h text (o .at)) where
+      pub faults-stop : (f .number ≡ 0 → ⊥) → bodyOf h (drop from text) ≡ rejected (f .number) (f .place)
       unfolding bodyOf gatesIn outputsIn faultsIn
-      faults-stop n = rw (sym g, read-done text (h .gates) gn gp ga gl gz, sym o, read-done text (h .outputs) on op oa ol oz, sym f, read-refused text (h .faults) fn fp fa fl n)
+      faults-stop n = rw (stage-read g gates-read, stage-read o outputs-read, stage-refused f n)
 
-      module _ (fz : fn ≡ 0) where
-        through : bodyOf h (drop from text) ≡ endOf h (take (h .gates) gl) (take (h .outputs) ol) (take (h .faults) fl) (drop fa text)
+      module _ (faults-read : f .number ≡ 0) where
+        through : bodyOf h (drop from text) ≡ endOf h (take (h .gates) (g .said)) (take (h .outputs) (o .said)) (take (h .faults) (f .said)) (drop (f .at) text)
         unfolding bodyOf gatesIn outputsIn faultsIn
-        through = rw (sym g, read-done text (h .gates) gn gp ga gl gz, sym o, read-done text (h .outputs) on op oa ol oz, sym f, read-done text (h .faults) fn fp fa fl fz)
+        through = rw (stage-read g gates-read, stage-read o outputs-read, stage-read f faults-read)
 
-        pub bytes-left : fa < length text → bodyOf h (drop from text) ≡ rejected 7 (h .gates + h .outputs + h .faults + 2)
+        pub bytes-left : f .at < length text → bodyOf h (drop from text) ≡ rejected 7 (h .gates + h .outputs + h .faults + 2)
         unfolding endOf
-        bytes-left k = let z : 0 < length (drop fa text) = omega (arith, length-drop fa text) in through ∙ rw (lt-ltb 0 (length (drop fa text)) z)
+        bytes-left k = let z : 0 < length (drop (f .at) text) = omega (arith, length-drop (f .at) text) in through ∙ rw (lt-ltb 0 (length (drop (f .at) text)) z)
 
-        pub all-read : length text ≤ fa → bodyOf h (drop from text) ≡ accepted (netlistOf (record { head = h; gates = gl; outputs = ol; faults = fl }))
+        pub all-read : length text ≤ f .at → bodyOf h (drop from text) ≡ accepted (netlistOf (record { head = h; gates = g .said; outputs = o .said; faults = f .said }))
         unfolding endOf netlistOf
-        all-read k = let z : length (drop fa text) ≤ 0 = omega (arith, length-drop fa text) in through ∙ rw (le-ltb 0 (length (drop fa text)) z)
+        all-read k = let z : length (drop (f .at) text) ≤ 0 = omega (arith, length-drop (f .at) text) in through ∙ rw (le-ltb 0 (length (drop (f .at) text)) z)
 
 module _ (text : List ℕ) where
   pub too-long : textBytes < length text → parseOf text ≡ rejected 1 0

@@ -10,7 +10,7 @@ use lib.ListN.{length, getD}
 use borrow.Author.Tests.{lt-ltb, le-leb, eq-eqb}
 use Rattle.text.specs.Text.{comma, lineEnd, indexOf, fieldOf}
 use Rattle.writing.specs.Writing.{numbersOf, lineOf}
-use Rattle.writing.proofs.WrittenLines.{Small, lacks-append, next-field, word-field, line-short}
+use Rattle.writing.proofs.LineFields.{Small, lacks-append, next-field, word-field, line-short}
 use Rattle.fields.specs.Fields.{valueAt, unless}
 use Rattle.statements.specs.Lines.{circuitWord, gateWord, outputWord, isHead, headFits, headRefusal, headOf, isGate, secondFits, gateFits, readsBelow, gateRefusal, gateOf, isOutput, outputFits, outputRefusal, outputOf}
 use Rattle.kinds.specs.Kinds.{kindWord}
@@ -23,7 +23,7 @@ use Rattle.kinds.proofs.KindWords.{KindWritten, kind-written}
 use Rattle.netlist.specs.CircuitText.{headLine, gateLine, outputLine}
 use Rattle.netlist.specs.Circuits.{Netlist}
 use Rattle.netlist.specs.WellFormed.{SecondRight, GateRight, OutputRight, WellFormed}
-use Rattle.sections.proofs.LinesTold.{Told}
+use Rattle.sections.proofs.LinesWritten.{Told}
 use Rattle.fields.proofs.PlainLines.{plain-count, plain-value, plain-numbers, plain-line, in-range, fits-by, value-behind, line-behind}
 
 -- ---- the first line

@@ -3,4 +3,4 @@ pub mod Assembling
 pub mod CircuitLines
 pub mod Counts
 pub mod Refusals
-pub mod Written
+pub mod CircuitsWritten

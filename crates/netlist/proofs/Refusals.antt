@@ -21,7 +21,7 @@ use Rattle.netlist.specs.Parsing.{gatesIn, outputsIn, faultsIn, Parse, a
 use Rattle.sections.specs.Sections.{Read, items, lineRefused, lineRefusal, linesOf}
 use Rattle.sections.specs.FaultLines.{nthFaultRefusal}
 use Rattle.fields.proofs.Chains.{LineNumber, numbered, not-zero}
-use Rattle.sections.proofs.LinesSaid.{lines-refused}
+use Rattle.sections.proofs.LinesRead.{lines-refused}
 use Rattle.netlist.proofs.Acceptance.{isAccepted, HeadRight, head-fits}
 use Rattle.netlist.proofs.Assembling.{too-long}
 

@@ -37,6 +37,11 @@ pub data Parse : Type 0 where
   accepted : Netlist → Parse
   rejected : ℕ → ℕ → Parse
 
+-- what a call makes of a text: of the circuit of an accepted one, or of a rejection's number and place
+abbrev pub onParse : {A : Type 0} → (Netlist → A) → (ℕ → ℕ → A) → Parse → A
+onParse found refuse (accepted n) = found n
+onParse found refuse (rejected number place) = refuse number place
+
 abbrev pub onRead : {A : Type 0} → Read A → (List A → List ℕ → Parse) → Parse
 onRead (items l rest) next = next l rest
 onRead (lineRefused number place) next = rejected number place

@@ -1,4 +1,4 @@
--- What accepted circuits satisfy, and no others (proofs/Written `accepted-exactly`): document 01's ranges, "Each of A and B is below the gate's own
+-- What accepted circuits satisfy, and no others (proofs/CircuitsWritten `accepted-exactly`): document 01's ranges, "Each of A and B is below the gate's own
 -- line", and outputs and faults that name lines of the circuit, a fault's lines rising.
 use Prim.Native.Nat.{ℕ, _+_, _<_, _≤_}
 use mathlib.Core.Path.{_≡_}

@@ -19,7 +19,7 @@ use Rattle.cover.proofs.Signatures.{Covering, silent-at, silent-before, silent-
 use Rattle.integer.specs.Tab.{nth}
 use Rattle.integer.proofs.Tabs.{getD-tab, tab-ext}
 use Rattle.netlist.specs.Circuits.{Netlist, faultAt}
-use Rattle.netlist.specs.Parsing.{accepted, parseOf}
+use Rattle.netlist.specs.Parsing.{accepted, parseOf, onParse}
 use Rattle.netlist.specs.WellFormed.{WellFormed}
 use Rattle.netlist.proofs.Acceptance.{well-formed}
 use Rattle.simulation.specs.Rows.{rowValue, rowsOf}
@@ -27,7 +27,7 @@ use Rattle.simulation.proofs.RowBounds.{length-rows}
 use Rattle.statements.specs.Items.{sound}
 use Rattle.statements.specs.declared.Fault.{Fault}
 use Rattle.transform.specs.Spectrum.{coefficientOf}
-use Rattle.planner.specs.PlanCall.{Verdict, refused, planned, soundRows, faultedRows, searched, silentFirst, verdictOf, workingNumbers, planIn, planVerdict, planNumbers, planAnswer}
+use Rattle.planner.specs.PlanCall.{Verdict, refused, planned, soundRows, faultedRows, searched, silentFirst, verdictOf, workingNumbers, circuitVerdict, planVerdict, planNumbers, planAnswer}
 use Rattle.planner.specs.Demand.{Named, Shows, Possible, Silent, SomeSilent, Right}
 use Rattle.planner.proofs.FaultRows.{fault-rows, fault-count}
 use Rattle.planner.proofs.PlanLaws.{kept-four}
@@ -215,5 +215,5 @@ module _ (n : Netlist) (w : WellFormed n) where
 pub demand-three : (text : List ℕ) (n : Netlist) (work : ℕ) → parseOf text ≡ accepted n → workingNumbers ≤ work → Right n (planAnswer text work)
 unfolding planAnswer planVerdict
 demand-three text n work e h =
-    subst (λ (v : Verdict). Right n (planNumbers v)) (sym (ap (λ p. planIn p work) e ∙ ap (λ (t : Bool). cond t (refused 8 0) (verdictOf n)) (le-ltb work workingNumbers h)))
+    subst (λ (v : Verdict). Right n (planNumbers v)) (sym (ap (onParse (circuitVerdict work) refused) e ∙ ap (λ (t : Bool). cond t (refused 8 0) (verdictOf n)) (le-ltb work workingNumbers h)))
     (right-verdict n (well-formed text n e))

@@ -14,7 +14,7 @@ use lib.ListN.{length, drop}
 use Rattle.cover.specs.Cover.{firstSilent, signatureOf}
 use Rattle.cover.specs.Sets.{fourOf}
 use Rattle.netlist.specs.Circuits.{Netlist}
-use Rattle.netlist.specs.Parsing.{Parse, accepted, rejected, parseOf}
+use Rattle.netlist.specs.Parsing.{onParse, parseOf}
 use Rattle.simulation.specs.Rows.{rowsOf}
 use Rattle.statements.specs.Items.{sound}
 use Rattle.planner.specs.declared.Planned.{Planned}
@@ -48,13 +48,13 @@ verdictOf n =
 abbrev pub workingNumbers : ℕ
 workingNumbers = 4608
 
--- the text's own refusals, then 8 unless there are enough working numbers
-abbrev pub planIn : Parse → ℕ → Verdict
-planIn (accepted n) work = cond (ltb work workingNumbers) (refused 8 0) (verdictOf n)
-planIn (rejected number place) work = refused number place
+-- 8 unless there are enough working numbers
+abbrev pub circuitVerdict : ℕ → Netlist → Verdict
+circuitVerdict work n = cond (ltb work workingNumbers) (refused 8 0) (verdictOf n)
 
+-- the text's own refusals go first
 unfoldable pub planVerdict : List ℕ → ℕ → Verdict
-planVerdict text work = planIn (parseOf text) work
+planVerdict text work = onParse (circuitVerdict work) refused (parseOf text)
 
 -- document 01's numbers of a verdict
 abbrev pub planNumbers : Verdict → Planned

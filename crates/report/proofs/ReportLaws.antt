@@ -22,7 +22,7 @@ use Rattle.cover.specs.Steps.{Below}
 use Rattle.cover.proofs.LabelOrder.{at-mem}
 use Rattle.cover.proofs.Signatures.{signature-found}
 use Rattle.netlist.specs.Circuits.{Netlist, netlistOf}
-use Rattle.netlist.specs.Parsing.{Parse, accepted, rejected, parseOf, meaning}
+use Rattle.netlist.specs.Parsing.{Parse, accepted, rejected, parseOf, meaning, onParse}
 use Rattle.netlist.specs.WellFormed.{WellFormed}
 use Rattle.netlist.specs.declared.Parsed.{Parsed}
 use Rattle.netlist.proofs.Acceptance.{well-formed, accepted-as}
@@ -33,7 +33,7 @@ use Rattle.statements.specs.Items.{sound as unfaulted}
 use Rattle.writing.specs.Writing.{placed, gather}
 use Rattle.writing.proofs.Writings.{length-placed, placed-more, placed-front, gather-length}
 use Rattle.planner.specs.PlanCall.{Verdict, refused, planned, soundRows, faultedRows, searched, silentFirst, verdictOf, workingNumbers, planVerdict, planNumbers, WorkKept}
-use Rattle.report.specs.ReportCall.{planLine, refusedLine, labelLine, faultReportLine, planLines, verdictLines, reportIn, reportOf, reportBytes, short, reportAnswer, reportLeft, reportVerdict}
+use Rattle.report.specs.ReportCall.{planLine, refusedLine, labelLine, faultReportLine, planLines, verdictLines, circuitReport, reportOf, reportBytes, short, reportAnswer, reportLeft, reportVerdict}
 use Rattle.planner.specs.declared.Planned.{Planned}
 use Rattle.report.specs.declared.Reported.{Reported}
 use Rattle.planner.proofs.FaultRows.{fault-count}
@@ -154,7 +154,7 @@ pub report-fits : (text : List ℕ) → length (reportOf text) ≤ 715
 unfolding reportOf
 report-fits text = go (parseOf text) refl
   where
-    go : (p : Parse) → parseOf text ≡ p → length (reportIn p) ≤ 715
+    go : (p : Parse) → parseOf text ≡ p → length (onParse circuitReport refusedLine p) ≤ 715
     go (accepted n) e = let w = well-formed text n e in verdict-length n w (verdictOf n) (verdict-fitting n w)
     go (rejected number place) e =
         let s = refusal-small text number place e in
@@ -173,11 +173,11 @@ module _ (text : List ℕ) (p : Parsed) (means : meaning p ≡ parseOf text) whe
   text-refuses h =
       let e = sym means ∙ meant p refl refl h in
       let s = refusal-small text (p .number) (p .place) e in
-      (s .1, s .2, sym (ap reportIn e))
+      (s .1, s .2, sym (ap (onParse circuitReport refusedLine) e))
 
   pub text-serves : p .number ≡ 0 → verdictLines (netlistOf (p .circuit)) (verdictOf (netlistOf (p .circuit))) ≡ reportOf text
   unfolding reportOf
-  text-serves h = sym (ap reportIn (accepted-as text p means h))
+  text-serves h = sym (ap (onParse circuitReport refusedLine) (accepted-as text p means h))
 
 -- by the lent buffers
 module _ (text out work : List ℕ) where

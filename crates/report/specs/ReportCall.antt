@@ -13,7 +13,7 @@ use Rattle.text.specs.Text.{bytesOf}
 use Rattle.cover.specs.Cover.{covers, faultRows}
 use Rattle.integer.specs.First.{firstWhere}
 use Rattle.netlist.specs.Circuits.{Netlist}
-use Rattle.netlist.specs.Parsing.{Parse, accepted, rejected, parseOf}
+use Rattle.netlist.specs.Parsing.{onParse, parseOf}
 use Rattle.statements.specs.Lines.{faultWord}
 use Rattle.writing.specs.Writing.{gather, lineOf}
 use Rattle.transform.specs.Spectrum.{coefficientOf}
@@ -59,12 +59,11 @@ abbrev pub verdictLines : Netlist → Verdict → List ℕ
 verdictLines n (refused number place) = refusedLine number place
 verdictLines n (planned labels) = planLines (soundRows n) (faultedRows n) labels
 
-abbrev pub reportIn : Parse → List ℕ
-reportIn (accepted n) = verdictLines n (verdictOf n)
-reportIn (rejected number place) = refusedLine number place
+abbrev pub circuitReport : Netlist → List ℕ
+circuitReport n = verdictLines n (verdictOf n)
 
 unfoldable pub reportOf : List ℕ → List ℕ
-reportOf text = reportIn (parseOf text)
+reportOf text = onParse circuitReport refusedLine (parseOf text)
 
 abbrev pub reportBytes : ℕ
 reportBytes = 1024

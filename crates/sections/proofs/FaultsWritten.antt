@@ -14,7 +14,7 @@ use borrow.Author.Tests.{lt-ltb, le-leb, ne-eqb}
 use Rattle.text.specs.Text.{indexOf, fieldCount}
 use Rattle.writing.specs.Writing.{numbersOf, lineOf}
 use Rattle.text.proofs.Decimals.{or-true}
-use Rattle.writing.proofs.WrittenLines.{Small, line-short}
+use Rattle.writing.proofs.LineFields.{Small, line-short}
 use Rattle.statements.specs.Items.{free}
 use Rattle.fields.specs.Fields.{valueAt, isLine, unless}
 use Rattle.statements.specs.Lines.{faultWord, isFault, pairInRange, pairFits, faultFits, linesExist, risesAt, linesRise, faultRefusal, pairAt, faultOf}
@@ -22,7 +22,7 @@ use Rattle.statements.specs.declared.Fault.{Fault}
 use Rattle.statements.specs.declared.Pair.{Pair}
 use Rattle.sections.specs.FaultLines.{pairWritten, faultLine, Above, FaultRight}
 use Rattle.sections.proofs.FaultsRight.{free-line}
-use Rattle.sections.proofs.LinesTold.{Told}
+use Rattle.sections.proofs.LinesWritten.{Told}
 use Rattle.fields.proofs.PlainLines.{plain-count, plain-value, plain-line, in-range}
 
 abbrev bit : Bool → ℕ

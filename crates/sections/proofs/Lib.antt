@@ -1,5 +1,5 @@
 pub mod FaultsRight
 pub mod FaultsWritten
 pub mod LineLoops
-pub mod LinesSaid
-pub mod LinesTold
+pub mod LinesRead
+pub mod LinesWritten

@@ -2,7 +2,8 @@
 --   ReadSoFar                      the invariant: what all lines say is what the lines from here on say, after those read so far
 --   begun, turned                it holds at first, and after a line that is accepted
 --   missing, declined, finished  what the loop answers at its three ends
---   read-refused, read-done      such an answer by its number
+--   Stage                        the answer of a stage of the parser: lines of one kind, from an index on
+--   stage-refused, stage-read    what they say, by the answer's number
 use mathlib.Core.Path.{_≡_, refl, sym, ap, ap₂, _∙_}
 use mathlib.Core.List.{List, [], _∷_, _++_}
 use Prim.Native.Nat.{ℕ, suc, _+_, _-_, _<_, _≤_, zero-le}
@@ -18,13 +19,28 @@ use Rattle.sections.specs.Sections.{Read, items, lineRefused, lineRefusa
 use Rattle.fields.specs.Fields.{unless}
 
 module _ {A : Type 0} (text : List ℕ) (count number place at : ℕ) (l : List A) where
-  pub read-refused : (number ≡ 0 → ⊥) → readOf text count number place at l ≡ lineRefused number place
+  read-refused : (number ≡ 0 → ⊥) → readOf text count number place at l ≡ lineRefused number place
   unfolding readOf
   read-refused n = rw (ne-eqb number 0 n)
 
-  pub read-done : number ≡ 0 → readOf text count number place at l ≡ items (take count l) (drop at text)
+  read-done : number ≡ 0 → readOf text count number place at l ≡ items (take count l) (drop at text)
   unfolding readOf
   read-done e = rw (eq-eqb number 0 e)
+
+-- `count` lines from index `from` on, the first of which is line `first` of the text
+pub record Stage {A : Type 0} (refusal : ℕ → List ℕ → ℕ) (item : List ℕ → A) (text : List ℕ) (from first count : ℕ) : Type 0 where
+  pub number : ℕ
+  pub place : ℕ
+  pub at : ℕ
+  pub said : List A
+  pub is : readOf text count number place at said ≡ linesOf refusal item count first (drop from text) []
+
+module _ {A : Type 0} {refusal : ℕ → List ℕ → ℕ} {item : List ℕ → A} {text : List ℕ} {from first count : ℕ} (s : Stage refusal item text from first count) where
+  pub stage-refused : (s .number ≡ 0 → ⊥) → linesOf refusal item count first (drop from text) [] ≡ lineRefused (s .number) (s .place)
+  stage-refused n = sym (s .is) ∙ read-refused text count (s .number) (s .place) (s .at) (s .said) n
+
+  pub stage-read : s .number ≡ 0 → linesOf refusal item count first (drop from text) [] ≡ items (take count (s .said)) (drop (s .at) text)
+  stage-read z = sym (s .is) ∙ read-done text count (s .number) (s .place) (s .at) (s .said) z
 
 module _ {A : Type 0} (refusal : ℕ → List ℕ → ℕ) (item : List ℕ → A) where
   -- one line, by the number that it is refused by

@@ -1,3 +1,3 @@
 pub mod ReadBack
 pub mod Writings
-pub mod WrittenLines
+pub mod LineFields

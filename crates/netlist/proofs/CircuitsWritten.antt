@@ -21,7 +21,7 @@ use Rattle.netlist.specs.Parsing.{gatesIn, outputsIn, faultsIn, accepted
 use Rattle.netlist.specs.WellFormed.{WellFormed, topOf}
 use Rattle.netlist.proofs.Acceptance.{well-formed}
 use Rattle.sections.proofs.FaultsWritten.{fault-told}
-use Rattle.sections.proofs.LinesTold.{told-has, told-before, told-after, lines-read, lines-short, Told}
+use Rattle.sections.proofs.LinesWritten.{told-has, told-before, told-after, lines-read, lines-short, Told}
 use Rattle.netlist.proofs.CircuitLines.{headWritten, head-told, gate-told, output-told}
 use Rattle.fields.specs.Fields.{unless}
 

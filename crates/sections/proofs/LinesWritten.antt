@@ -11,7 +11,7 @@ use lib.IntN.{ℤ}
 use lib.ListN.{length, getD, length-append}
 use Rattle.text.specs.Text.{lineEnd, before, after, hasByte}
 use Rattle.writing.specs.Writing.{numbersOf, lineOf, gather}
-use Rattle.writing.proofs.WrittenLines.{Lacks, gather-cons, line-has, line-before, line-after}
+use Rattle.writing.proofs.LineFields.{Lacks, gather-cons, line-has, line-before, line-after}
 use native.Mathlib.Nat.{add-zero, zero-add}
 use Rattle.writing.proofs.Writings.{gather-length}
 use Rattle.sections.specs.Sections.{eachLine, items, linesOf}
