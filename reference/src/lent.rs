@@ -87,15 +87,15 @@ pub fn surround<'a>(random: &mut Random, text: &'a [u8]) -> [&'a [u8]; 3] {
     [random.pick(&BEFORE), text, random.pick(&AFTER)]
 }
 
-/// Lends the text between `before` and `after` to `door`, and asserts that
+/// Lends the text between `before` and `after` to `call`, and asserts that
 /// nothing was written there.
 pub fn lend_text<T>(
     case: fmt::Arguments,
     [before, text, after]: [&[u8]; 3],
-    door: impl FnOnce(&[u8]) -> T,
+    call: impl FnOnce(&[u8]) -> T,
 ) -> T {
     let around = [before, text, after].concat();
-    let found = door(&around[before.len()..before.len() + text.len()]);
+    let found = call(&around[before.len()..before.len() + text.len()]);
     let again = [before, text, after].concat();
     assert!(around == again, "{case}: the text was written to");
     found

@@ -1,10 +1,11 @@
-//! The doors of the static library, with slices in place of pointers.
+//! The C functions of the static library, with slices in place of pointers.
+//! Structs and fields have the names that README.md gives them in C.
 
 /// What a call with a lent buffer gives back: number 0 and place 0 when it is
 /// done, else the refusal and its place.
 #[repr(C)]
 #[derive(Clone, Copy, Debug, PartialEq, Eq)]
-pub struct Answer {
+pub struct Reply {
     pub number: u32,
     pub place: usize,
 }
@@ -12,7 +13,7 @@ pub struct Answer {
 /// What the call for one coefficient gives back; value 0 with a refusal.
 #[repr(C)]
 #[derive(Clone, Copy, Debug, PartialEq, Eq)]
-pub struct Found {
+pub struct Sum {
     pub number: u32,
     pub value: i32,
     pub place: usize,
@@ -21,7 +22,7 @@ pub struct Found {
 /// What the field call gives back: a part of the text.
 #[repr(C)]
 #[derive(Clone, Copy, Debug, PartialEq, Eq)]
-pub struct Span {
+pub struct Part {
     pub start: usize,
     pub length: usize,
 }
@@ -30,7 +31,7 @@ pub struct Span {
 /// 0 past the size; else the refusal and its place, and 0 in all the rest.
 #[repr(C)]
 #[derive(Clone, Copy, Debug, PartialEq, Eq)]
-pub struct Plan {
+pub struct Signature {
     pub number: u32,
     pub place: usize,
     pub size: usize,
@@ -41,9 +42,9 @@ pub struct Plan {
 /// number 8 and 0.
 #[repr(C)]
 #[derive(Clone, Copy, Debug, PartialEq, Eq)]
-pub struct Report {
+pub struct Written {
     pub number: u32,
-    pub length: usize,
+    pub bytes: usize,
 }
 
 /// What the reading call gives back: the case (1 plain syndrome, 2 weighted sum,
@@ -62,7 +63,7 @@ pub struct Measured {
 /// What the pair call gives back: three readings, all 0 with a refusal.
 #[repr(C)]
 #[derive(Clone, Copy, Debug)]
-pub struct Compared {
+pub struct Comparison {
     pub number: u32,
     pub place: usize,
     pub sound: f64,
@@ -70,24 +71,24 @@ pub struct Compared {
     pub difference: f64,
 }
 
-/// The C interface itself.
-mod doors {
-    use super::{Answer, Compared, Found, Measured, Plan, Report, Span};
+/// The C functions themselves.
+mod exported {
+    use super::{Comparison, Measured, Part, Reply, Signature, Sum, Written};
 
     extern "C" {
-        pub fn walsh_coefficient(rows: *const i32, rows_len: usize, label: u32) -> Found;
+        pub fn walsh_coefficient(rows: *const i32, rows_len: usize, label: u32) -> Sum;
         pub fn walsh_spectrum(
             rows: *const i32,
             rows_len: usize,
             out: *mut i32,
             out_len: usize,
-        ) -> Answer;
+        ) -> Reply;
         pub fn walsh_rows(
             coefficients: *const i32,
             len: usize,
             out: *mut i32,
             out_len: usize,
-        ) -> Answer;
+        ) -> Reply;
         pub fn walsh_stuck(
             coefficients: *const i32,
             len: usize,
@@ -97,7 +98,7 @@ mod doors {
             values_len: usize,
             out: *mut i32,
             out_len: usize,
-        ) -> Answer;
+        ) -> Reply;
         pub fn walsh_opened(
             coefficients: *const i32,
             len: usize,
@@ -105,21 +106,21 @@ mod doors {
             values_len: usize,
             out: *mut i32,
             out_len: usize,
-        ) -> Answer;
+        ) -> Reply;
         pub fn walsh_circuit(
             text: *const u8,
             text_len: usize,
             fault: u32,
             out: *mut i32,
             out_len: usize,
-        ) -> Answer;
-        pub fn walsh_field(text: *const u8, text_len: usize, number: usize) -> Span;
+        ) -> Reply;
+        pub fn walsh_field(text: *const u8, text_len: usize, number: usize) -> Part;
         pub fn walsh_plan(
             text: *const u8,
             text_len: usize,
             work: *mut u32,
             work_len: usize,
-        ) -> Plan;
+        ) -> Signature;
         pub fn walsh_report(
             text: *const u8,
             text_len: usize,
@@ -127,7 +128,7 @@ mod doors {
             out_len: usize,
             work: *mut u32,
             work_len: usize,
-        ) -> Report;
+        ) -> Written;
         pub fn walsh_reading(text: *const u8, text_len: usize, mask: u32, values: u32) -> Measured;
         pub fn walsh_pair(
             text: *const u8,
@@ -135,25 +136,25 @@ mod doors {
             fault: u32,
             mask: u32,
             values: u32,
-        ) -> Compared;
+        ) -> Comparison;
     }
 }
 
-pub fn coefficient(rows: &[i32], label: u32) -> Found {
+pub fn coefficient(rows: &[i32], label: u32) -> Sum {
     // SAFETY: pointer and length are those of one live slice.
-    unsafe { doors::walsh_coefficient(rows.as_ptr(), rows.len(), label) }
+    unsafe { exported::walsh_coefficient(rows.as_ptr(), rows.len(), label) }
 }
 
-pub fn spectrum(rows: &[i32], out: &mut [i32]) -> Answer {
+pub fn spectrum(rows: &[i32], out: &mut [i32]) -> Reply {
     // SAFETY: each pointer and length are those of one live slice, and only
     // `out`, which overlaps no other, is written.
-    unsafe { doors::walsh_spectrum(rows.as_ptr(), rows.len(), out.as_mut_ptr(), out.len()) }
+    unsafe { exported::walsh_spectrum(rows.as_ptr(), rows.len(), out.as_mut_ptr(), out.len()) }
 }
 
-pub fn rows(coefficients: &[i32], out: &mut [i32]) -> Answer {
+pub fn rows(coefficients: &[i32], out: &mut [i32]) -> Reply {
     // SAFETY: as for `spectrum`.
     unsafe {
-        doors::walsh_rows(
+        exported::walsh_rows(
             coefficients.as_ptr(),
             coefficients.len(),
             out.as_mut_ptr(),
@@ -162,10 +163,10 @@ pub fn rows(coefficients: &[i32], out: &mut [i32]) -> Answer {
     }
 }
 
-pub fn stuck(coefficients: &[i32], inputs: &[u32], values: &[u32], out: &mut [i32]) -> Answer {
+pub fn stuck(coefficients: &[i32], inputs: &[u32], values: &[u32], out: &mut [i32]) -> Reply {
     // SAFETY: as for `spectrum`.
     unsafe {
-        doors::walsh_stuck(
+        exported::walsh_stuck(
             coefficients.as_ptr(),
             coefficients.len(),
             inputs.as_ptr(),
@@ -178,10 +179,10 @@ pub fn stuck(coefficients: &[i32], inputs: &[u32], values: &[u32], out: &mut [i3
     }
 }
 
-pub fn opened(coefficients: &[i32], values: &[u32], out: &mut [i32]) -> Answer {
+pub fn opened(coefficients: &[i32], values: &[u32], out: &mut [i32]) -> Reply {
     // SAFETY: as for `spectrum`.
     unsafe {
-        doors::walsh_opened(
+        exported::walsh_opened(
             coefficients.as_ptr(),
             coefficients.len(),
             values.as_ptr(),
@@ -192,10 +193,10 @@ pub fn opened(coefficients: &[i32], values: &[u32], out: &mut [i32]) -> Answer {
     }
 }
 
-pub fn circuit(text: &[u8], fault: u32, out: &mut [i32]) -> Answer {
+pub fn circuit(text: &[u8], fault: u32, out: &mut [i32]) -> Reply {
     // SAFETY: as for `spectrum`.
     unsafe {
-        doors::walsh_circuit(
+        exported::walsh_circuit(
             text.as_ptr(),
             text.len(),
             fault,
@@ -205,22 +206,22 @@ pub fn circuit(text: &[u8], fault: u32, out: &mut [i32]) -> Answer {
     }
 }
 
-pub fn field(text: &[u8], number: usize) -> Span {
+pub fn field(text: &[u8], number: usize) -> Part {
     // SAFETY: pointer and length are those of one live slice.
-    unsafe { doors::walsh_field(text.as_ptr(), text.len(), number) }
+    unsafe { exported::walsh_field(text.as_ptr(), text.len(), number) }
 }
 
-pub fn plan(text: &[u8], work: &mut [u32]) -> Plan {
+pub fn plan(text: &[u8], work: &mut [u32]) -> Signature {
     // SAFETY: each pointer and length are those of one live slice, and only
     // `work`, which overlaps no other, is written.
-    unsafe { doors::walsh_plan(text.as_ptr(), text.len(), work.as_mut_ptr(), work.len()) }
+    unsafe { exported::walsh_plan(text.as_ptr(), text.len(), work.as_mut_ptr(), work.len()) }
 }
 
-pub fn report(text: &[u8], out: &mut [u8], work: &mut [u32]) -> Report {
+pub fn report(text: &[u8], out: &mut [u8], work: &mut [u32]) -> Written {
     // SAFETY: each pointer and length are those of one live slice, and only
     // `out` and `work`, which overlap no other, are written.
     unsafe {
-        doors::walsh_report(
+        exported::walsh_report(
             text.as_ptr(),
             text.len(),
             out.as_mut_ptr(),
@@ -233,10 +234,10 @@ pub fn report(text: &[u8], out: &mut [u8], work: &mut [u32]) -> Report {
 
 pub fn reading(text: &[u8], mask: u32, values: u32) -> Measured {
     // SAFETY: pointer and length are those of one live slice.
-    unsafe { doors::walsh_reading(text.as_ptr(), text.len(), mask, values) }
+    unsafe { exported::walsh_reading(text.as_ptr(), text.len(), mask, values) }
 }
 
-pub fn pair(text: &[u8], fault: u32, mask: u32, values: u32) -> Compared {
+pub fn pair(text: &[u8], fault: u32, mask: u32, values: u32) -> Comparison {
     // SAFETY: pointer and length are those of one live slice.
-    unsafe { doors::walsh_pair(text.as_ptr(), text.len(), fault, mask, values) }
+    unsafe { exported::walsh_pair(text.as_ptr(), text.len(), fault, mask, values) }
 }

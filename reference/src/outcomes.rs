@@ -2,21 +2,21 @@
 //! each outcome came.
 
 use crate::lent::Lent;
-use crate::library::Answer;
+use crate::library::Reply;
 use crate::random::Random;
 use crate::walsh::Refusal;
 use std::fmt;
 
 /// What a call gives back that ends in this result.
-pub fn answer<T>(result: &Result<T, Refusal>) -> Answer {
+pub fn answer<T>(result: &Result<T, Refusal>) -> Reply {
     let (number, place) = match result {
         Ok(_) => (0, 0),
         Err(refusal) => (refusal.number, refusal.place),
     };
-    Answer { number, place }
+    Reply { number, place }
 }
 
-/// Lends a buffer of `room` numbers of noise to `door` and asserts that the
+/// Lends a buffer of `room` numbers of noise to `call` and asserts that the
 /// number, the place and the whole buffer are what is due; gives number and
 /// place.
 pub fn compare(
@@ -24,10 +24,10 @@ pub fn compare(
     case: fmt::Arguments,
     room: usize,
     due: &Result<Vec<i32>, Refusal>,
-    door: impl FnOnce(&mut [i32]) -> Answer,
+    call: impl FnOnce(&mut [i32]) -> Reply,
 ) -> (u32, usize) {
     let mut lent = Lent::new(room, || random.noise());
-    let found = door(lent.part());
+    let found = call(lent.part());
     assert_eq!(
         found,
         answer(due),
@@ -37,15 +37,15 @@ pub fn compare(
     (found.number, found.place)
 }
 
-/// What `door` writes into a buffer of `room` numbers; it must not refuse.
+/// What `call` writes into a buffer of `room` numbers; it must not refuse.
 /// The second implementation is not asked.
 pub fn written(
     case: impl fmt::Display,
     room: usize,
-    door: impl FnOnce(&mut [i32]) -> Answer,
+    call: impl FnOnce(&mut [i32]) -> Reply,
 ) -> Vec<i32> {
     let mut out = vec![i32::MIN; room];
-    let found = door(&mut out);
+    let found = call(&mut out);
     assert_eq!((found.number, found.place), (0, 0), "{case}");
     out
 }

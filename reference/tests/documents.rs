@@ -1,7 +1,8 @@
 //! The map from sentences to what keeps them, `docs/DEMANDS.md`, names things
 //! of this repository: each name must be there, and each wrong program named.
+//! A name on a page leads to one place: every name is defined once.
 
-use std::collections::BTreeSet;
+use std::collections::{BTreeMap, BTreeSet};
 use std::fs;
 use std::path::{Path, PathBuf};
 
@@ -176,4 +177,96 @@ fn every_wrong_program_is_on_the_map() {
     for edit in edits() {
         assert!(named.contains(edit.as_str()), "{edit} is not named");
     }
+}
+
+/// What a line of a file of definitions or laws has after its spaces.
+enum Form<'a> {
+    /// The name of a record or of data, if others can use it.
+    Block(&'a str, Option<&'a str>),
+    /// The name of a definition or a law that others can use.
+    Public(&'a str),
+    Other,
+}
+
+fn form(line: &str) -> Form<'_> {
+    let line = ["abbrev ", "unfoldable "]
+        .iter()
+        .find_map(|mark| line.strip_prefix(mark))
+        .unwrap_or(line);
+    let public = line.strip_prefix("pub ");
+    let mut rest = public.unwrap_or(line).split_whitespace();
+    match (rest.next(), rest.next()) {
+        (Some(kind @ ("record" | "data")), Some(name)) => Form::Block(kind, public.and(Some(name))),
+        (Some(name), Some(":")) if public.is_some() => Form::Public(name),
+        (Some("mod"), Some(_)) => Form::Other,
+        _ => {
+            assert!(public.is_none(), "of no known form: {line}");
+            Form::Other
+        }
+    }
+}
+
+/// The names that a file of definitions or laws defines for others. Fields of
+/// records are none, constructors of data are.
+fn defined_names(text: &str) -> Vec<String> {
+    let mut names = Vec::new();
+    let mut block: Option<(usize, &str, bool)> = None;
+    for line in text.lines().filter(|line| !line.trim().is_empty()) {
+        let words = line.trim_start();
+        let indent = line.len() - words.len();
+        if block.is_some_and(|(least, _, _)| indent <= least) {
+            block = None;
+        }
+        match (block, form(words)) {
+            (None, Form::Block(kind, name)) => {
+                block = Some((indent, kind, name.is_some()));
+                names.extend(name.map(str::to_string));
+            }
+            (None, Form::Public(name)) => names.push(name.to_string()),
+            (Some((least, "data", true)), _) if indent == least + 2 => {
+                let mut words = words.split_whitespace();
+                if let (Some(name), Some(":")) = (words.next(), words.next()) {
+                    names.push(name.to_string());
+                }
+            }
+            _ => {}
+        }
+    }
+    names
+}
+
+/// The structs and enums of a file of code.
+fn declared_names(text: &str) -> Vec<String> {
+    let lines = text
+        .lines()
+        .map(|line| line.strip_prefix("pub ").unwrap_or(line));
+    let types = lines.filter_map(|line| {
+        let rest = line.strip_prefix("struct ");
+        rest.or_else(|| line.strip_prefix("enum "))
+    });
+    let names = types.filter_map(|rest| words(rest).next());
+    names.map(str::to_string).collect()
+}
+
+#[test]
+fn a_name_leads_to_one_place() {
+    let mut places: BTreeMap<String, Vec<PathBuf>> = BTreeMap::new();
+    for ending in ["antt", "rt"] {
+        for path in files_of("crates", ending) {
+            let folder = path.parent().expect("a folder");
+            let room = folder.file_name().expect("a name").to_string_lossy();
+            let names = match (ending, room.as_ref()) {
+                ("rt", _) => declared_names(&read(&path)),
+                // The proof of a function, in a folder of its own, is cited by no page.
+                (_, "specs" | "proofs") => defined_names(&read(&path)),
+                _ => continue,
+            };
+            for name in names {
+                places.entry(name).or_default().push(path.clone());
+            }
+        }
+    }
+    assert!(places.len() > 500, "{} names were found", places.len());
+    let twice: Vec<_> = places.iter().filter(|(_, at)| at.len() > 1).collect();
+    assert!(twice.is_empty(), "defined more than once: {twice:#?}");
 }

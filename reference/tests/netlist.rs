@@ -7,7 +7,7 @@ use reference::circuits::{
     TWO_OUTPUTS, TWO_STUCK_INPUTS,
 };
 use reference::lent::{lend_text, surround, Shown};
-use reference::library::{self, Span};
+use reference::library::{self, Part};
 use reference::netlist::{self, Netlist, StuckLine, CIRCUIT_LIMIT, TEXT_LIMIT};
 use reference::outcomes::{compare, written, Outcomes};
 use reference::random::Random;
@@ -102,7 +102,7 @@ impl Both {
         changing
     }
 
-    fn field(&mut self, text: &[u8], number: usize) -> Span {
+    fn field(&mut self, text: &[u8], number: usize) -> Part {
         let case = format_args!("field {number} of {}", Shown(text));
         let found = lend_text(case, surround(&mut self.random, text), |text| {
             library::field(text, number)
@@ -110,7 +110,7 @@ impl Both {
         let (start, length) = netlist::field(text, number);
         assert_eq!(
             found,
-            Span { start, length },
+            Part { start, length },
             "{case}: left the library, right what is due"
         );
         found
@@ -1059,12 +1059,12 @@ fn fields_by_hand() {
         for number in 0..spans.len() + 3 {
             let (start, length) = spans.get(number).copied().unwrap_or((text.len(), 0));
             let found = both.field(text.as_bytes(), number);
-            assert_eq!(found, Span { start, length }, "field {number} of {text:?}");
+            assert_eq!(found, Part { start, length }, "field {number} of {text:?}");
         }
         let (start, length) = (text.len(), 0);
         for number in [255, 256, 65_536, 1 << 32, usize::MAX - 1, usize::MAX] {
             let found = both.field(text.as_bytes(), number);
-            assert_eq!(found, Span { start, length }, "field {number} of {text:?}");
+            assert_eq!(found, Part { start, length }, "field {number} of {text:?}");
         }
     }
 }
@@ -1085,7 +1085,7 @@ fn fields_of_random_texts() {
         let count = 1 + text.iter().filter(|&&byte| byte == b',').count();
         let mut joined = Vec::new();
         for number in 0..count {
-            let Span { start, length } = both.field(&text, number);
+            let Part { start, length } = both.field(&text, number);
             joined.push(&text[start..start + length]);
             full += usize::from(length > 0);
             empty += usize::from(length == 0);

@@ -8,7 +8,7 @@ use reference::circuits::{
     SILENT_FAULT, TWO_OUTPUTS,
 };
 use reference::lent::{lend_text, surround, Lent, Shown};
-use reference::library::{self, Plan, Report};
+use reference::library::{self, Signature, Written};
 use reference::netlist::{self, TEXT_LIMIT};
 use reference::outcomes::{answer, Outcomes};
 use reference::plan::{self, Spectra, CAP_LIMIT, WORKING_NUMBERS};
@@ -25,14 +25,14 @@ const WORKING_LENGTHS: [usize; 8] = [0, 1, 2_304, 4_607, 4_608, 4_609, 5_000, 9_
 const ROOMS: [usize; 7] = [0, 1, 670, 1_023, 1_024, 1_025, 3_000];
 
 /// What the plan call gives back that ends in this result.
-fn plan_of(result: &Result<Vec<usize>, Refusal>) -> Plan {
+fn plan_of(result: &Result<Vec<usize>, Refusal>) -> Signature {
     let refused = answer(result);
     let mut labels = [0; CAP_LIMIT];
     let found = result.as_deref().unwrap_or_default();
     for (place, &label) in labels.iter_mut().zip(found) {
         *place = label as u32;
     }
-    Plan {
+    Signature {
         number: refused.number,
         place: refused.place,
         size: found.len(),
@@ -80,7 +80,7 @@ impl Both {
     }
 
     /// The plan call with a working buffer of this length.
-    fn plan_with(&mut self, text: &[u8], working: usize) -> Plan {
+    fn plan_with(&mut self, text: &[u8], working: usize) -> Signature {
         let case = format_args!("{working} working numbers, {}", Shown(text));
         let due = plan_of(&plan::plan(text, working));
         let mut work = Lent::new(working, || self.random.noise() as u32);
@@ -99,7 +99,7 @@ impl Both {
         found
     }
 
-    fn plan(&mut self, text: &[u8]) -> Plan {
+    fn plan(&mut self, text: &[u8]) -> Signature {
         self.plan_with(text, WORKING_NUMBERS)
     }
 
@@ -115,10 +115,12 @@ impl Both {
         });
         let number = answer(&due).number;
         let bytes = due.unwrap_or_default();
-        let length = bytes.len();
+        let written = Written {
+            number,
+            bytes: bytes.len(),
+        };
         assert_eq!(
-            found,
-            Report { number, length },
+            found, written,
             "{case}: left what came back, right what is due"
         );
         out.assert_holds(&bytes, case);
@@ -171,7 +173,7 @@ impl Both {
 }
 
 /// The library's plan, without the second implementation.
-fn library_plan(text: &[u8]) -> Plan {
+fn library_plan(text: &[u8]) -> Signature {
     library::plan(text, &mut vec![7; WORKING_NUMBERS])
 }
 
@@ -180,15 +182,15 @@ fn library_report(text: &[u8]) -> String {
     let mut out = vec![b'x'; REPORT_ROOM];
     let found = library::report(text, &mut out, &mut vec![7; WORKING_NUMBERS]);
     assert_eq!(found.number, 0, "{}", Shown(text));
-    String::from_utf8(out[..found.length].to_vec()).expect("plain text")
+    String::from_utf8(out[..found.bytes].to_vec()).expect("plain text")
 }
 
 /// A plan of these labels.
-fn of_labels(labels: &[usize]) -> Plan {
+fn of_labels(labels: &[usize]) -> Signature {
     plan_of(&Ok(labels.to_vec()))
 }
 
-fn refused(number: u32, place: usize) -> Plan {
+fn refused(number: u32, place: usize) -> Signature {
     plan_of(&Err(Refusal { number, place }))
 }
 

@@ -104,41 +104,41 @@ impl Measured {
 
 /// What the pair call gives back: sound, faulty and difference.
 #[derive(Clone, Copy, Debug, PartialEq, Eq)]
-struct Compared {
+struct Comparison {
     number: u32,
     place: usize,
     readings: [Bits; 3],
 }
 
-impl Compared {
-    fn new(readings: [Bits; 3]) -> Compared {
-        Compared {
+impl Comparison {
+    fn new(readings: [Bits; 3]) -> Comparison {
+        Comparison {
             number: 0,
             place: 0,
             readings,
         }
     }
 
-    fn refused(number: u32, place: usize) -> Compared {
-        Compared {
+    fn refused(number: u32, place: usize) -> Comparison {
+        Comparison {
             number,
             place,
             readings: [Bits(0); 3],
         }
     }
 
-    fn found(found: library::Compared) -> Compared {
-        Compared {
+    fn found(found: library::Comparison) -> Comparison {
+        Comparison {
             number: found.number,
             place: found.place,
             readings: [found.sound, found.faulty, found.difference].map(Bits::of),
         }
     }
 
-    fn due(pair: Result<reading::Pair, Refusal>) -> Compared {
+    fn due(pair: Result<reading::Pair, Refusal>) -> Comparison {
         match pair {
-            Ok(pair) => Compared::new([pair.sound, pair.faulty, pair.difference].map(Bits)),
-            Err(refusal) => Compared::refused(refusal.number, refusal.place),
+            Ok(pair) => Comparison::new([pair.sound, pair.faulty, pair.difference].map(Bits)),
+            Err(refusal) => Comparison::refused(refusal.number, refusal.place),
         }
     }
 }
@@ -180,15 +180,15 @@ impl Both {
         found
     }
 
-    fn pair(&mut self, text: &[u8], fault: u32, mask: u32, values: u32) -> Compared {
+    fn pair(&mut self, text: &[u8], fault: u32, mask: u32, values: u32) -> Comparison {
         let case = format_args!(
             "fault {fault}, mask {mask}, values {values}, {}",
             Shown(text)
         );
         let texts = surround(&mut self.random, text);
         let found = lend_text(case, texts, |text| library::pair(text, fault, mask, values));
-        let found = Compared::found(found);
-        let due = Compared::due(reading::pair(text, fault, mask, values));
+        let found = Comparison::found(found);
+        let due = Comparison::due(reading::pair(text, fault, mask, values));
         assert_eq!(found, due, "{case}: left what came back, right what is due");
         self.outcomes.note(found.number);
         if found.number == 0 {
@@ -362,8 +362,8 @@ fn value(text: &[u8], mask: u32, values: u32) -> f64 {
 }
 
 /// The library's pair, without the second implementation.
-fn compared(text: &[u8], fault: u32, mask: u32, values: u32) -> Compared {
-    Compared::found(library::pair(text, fault, mask, values))
+fn compared(text: &[u8], fault: u32, mask: u32, values: u32) -> Comparison {
+    Comparison::found(library::pair(text, fault, mask, values))
 }
 
 /// The library's pair as numbers; it must not refuse.
@@ -448,12 +448,12 @@ fn examples_of_the_paper() {
         let due = Measured::new(kind, 0, Bits::of(sound));
         assert_eq!(measured(bytes, 0, 0), due, "{text}");
         for (fault, &faulty) in (1..).zip(faulty) {
-            let due = Compared::new([sound, faulty, sound - faulty].map(Bits::of));
+            let due = Comparison::new([sound, faulty, sound - faulty].map(Bits::of));
             assert_eq!(compared(bytes, fault, 0, 0), due, "fault {fault} of {text}");
         }
         let next = faulty.len() as u32 + 1;
-        assert_eq!(compared(bytes, next, 0, 0), Compared::refused(12, 0));
-        assert_eq!(compared(bytes, 0, 0, 0), Compared::refused(12, 0));
+        assert_eq!(compared(bytes, next, 0, 0), Comparison::refused(12, 0));
+        assert_eq!(compared(bytes, 0, 0, 0), Comparison::refused(12, 0));
     }
     // Differences in bits: 1/8, -1/8, 3/8 and -3/8.
     for (fault, bits) in (1..).zip([
@@ -475,7 +475,7 @@ fn examples_of_the_paper() {
         (&nine, 3, 1),
     ] {
         assert_eq!(measured(text, 0, 0), Measured::refused(number, place));
-        assert_eq!(compared(text, 1, 0, 0), Compared::refused(number, place));
+        assert_eq!(compared(text, 1, 0, 0), Comparison::refused(number, place));
     }
     let eight = with_line(LISTING, 1, "circuit,8,4,1,2,2");
     // Read, and then line 7 is an input.
@@ -545,7 +545,7 @@ fn examples_with_fixed_inputs() {
     ] {
         let found = compared(LISTING.as_bytes(), fault, mask, values);
         let case = format_args!("fault {fault}, mask {mask}, values {values}");
-        assert_eq!(found, Compared::new(due.map(Bits::of)), "{case}");
+        assert_eq!(found, Comparison::new(due.map(Bits::of)), "{case}");
     }
 }
 
@@ -564,9 +564,9 @@ fn readings_at_their_limit() {
     let found = measured(&text([9; 4]), 0, 0);
     assert_eq!(found, Measured::new(WEIGHTED, 0, Bits(most)));
     let found = compared(&text([9; 4]), 1, 0, 0);
-    assert_eq!(found, Compared::new([most, 0, most].map(Bits)));
+    assert_eq!(found, Comparison::new([most, 0, most].map(Bits)));
     let found = compared(&text([10; 4]), 2, 0, 0);
-    assert_eq!(found, Compared::new([0, most, most | 1 << 63].map(Bits)));
+    assert_eq!(found, Comparison::new([0, most, most | 1 << 63].map(Bits)));
     // 11,535, 3,855 and 15 of 256.
     let three = text([9, 9, 9, 17]);
     let found = pair(&three, 1, 0, 0);
@@ -779,7 +779,7 @@ fn every_count_of_faults() {
         for fault in [0, next, next + 1, 33, u32::MAX] {
             for (mask, values) in fixtures {
                 let found = both.pair(&text, fault, mask, values);
-                assert_eq!(found, Compared::refused(12, 0), "{fault} of {faults}");
+                assert_eq!(found, Comparison::refused(12, 0), "{fault} of {faults}");
             }
         }
     }
@@ -796,7 +796,7 @@ fn arguments_out_of_range() {
         let draft = both.small(inputs, 1 + inputs);
         let (text, faults) = (draft.text(), draft.sizes.faults as u32);
         let all: u32 = (1 << inputs) - 1;
-        let refused = (Measured::refused(12, 0), Compared::refused(12, 0));
+        let refused = (Measured::refused(12, 0), Comparison::refused(12, 0));
         let mut expect = |fault: u32, mask: u32, values: u32| {
             let found = (
                 both.reading(&text, mask, values),
@@ -854,7 +854,7 @@ fn arguments_out_of_range() {
                 u32::MAX,
             ] {
                 let found = both.pair(&text, fault, mask, values);
-                assert_eq!(found, Compared::refused(12, 0), "fault {fault}");
+                assert_eq!(found, Comparison::refused(12, 0), "fault {fault}");
             }
         }
     }
@@ -913,7 +913,12 @@ fn the_text_goes_before_the_arguments() {
             assert_eq!(found, Measured::refused(number, place), "{}", Shown(&text));
             for fault in [0, 1, 2, 3, u32::MAX] {
                 let found = both.pair(&text, fault, mask, values);
-                assert_eq!(found, Compared::refused(number, place), "{}", Shown(&text));
+                assert_eq!(
+                    found,
+                    Comparison::refused(number, place),
+                    "{}",
+                    Shown(&text)
+                );
             }
         }
     }
@@ -1169,7 +1174,7 @@ fn fixed_inputs_are_stuck_inputs() {
         assert_eq!(fixed, stuck, "mask {mask}, {}", Shown(&text));
         // And then the fault changes nothing.
         let found = compared(&text, 1, mask, values);
-        assert_eq!(found, Compared::new([fixed, fixed, Bits(0)]));
+        assert_eq!(found, Comparison::new([fixed, fixed, Bits(0)]));
         telling += usize::from(sound != stuck);
     }
     assert!(telling > 100, "fixtures that change the reading: {telling}");

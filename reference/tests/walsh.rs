@@ -1,7 +1,7 @@
 //! The static library against the second implementation: number, place and
 //! the whole lent buffer, with noise in and around it, at every comparison.
 
-use reference::library::{self, Answer};
+use reference::library::{self, Reply};
 use reference::outcomes::{compare, written, Outcomes};
 use reference::random::Random;
 use reference::walsh::{self, Refusal, COEFFICIENT_LIMIT, ROW_LIMIT};
@@ -55,9 +55,9 @@ impl Both {
         case: fmt::Arguments,
         room: usize,
         due: Result<Vec<i32>, Refusal>,
-        door: impl FnOnce(&mut [i32]) -> Answer,
+        call: impl FnOnce(&mut [i32]) -> Reply,
     ) -> (u32, usize) {
-        let (number, place) = compare(&mut self.random, case, room, &due, door);
+        let (number, place) = compare(&mut self.random, case, room, &due, call);
         self.note(number, place)
     }
 
@@ -221,16 +221,16 @@ fn library_rows(coefficients: &[i32]) -> Vec<i32> {
     })
 }
 
-/// Asserts that `door`, a fault's call on the spectrum of `rows`, writes the
+/// Asserts that `call`, a fault's call on the spectrum of `rows`, writes the
 /// spectrum of `faulted`, the rows under that fault.
 fn assert_sums(
     case: fmt::Arguments,
     [rows, faulted]: [&[i32]; 2],
-    door: impl FnOnce(&mut [i32]) -> Answer,
+    call: impl FnOnce(&mut [i32]) -> Reply,
 ) {
     let case = format_args!("{case} on rows {}", Shown(rows));
     assert_eq!(
-        written(case, faulted.len(), door),
+        written(case, faulted.len(), call),
         due_spectrum(faulted),
         "{case}: right the faulted rows' sums"
     );

@@ -2,7 +2,6 @@
 --   "The circuit call gets a text and a fault number (0 for the sound circuit, else 1 to Q, otherwise 12) and writes the 2^N coefficients of those
 --   rows, no more." "Calls on text then test 12, 8, 13, 14."
 use Prim.Native.Nat.{ℕ, _^_}
-use mathlib.Core.Bool.{cond}
 use mathlib.Core.List.{List, []}
 use lib.Dec.{ltb}
 use lib.IntN.{ℤ}
@@ -11,15 +10,16 @@ use Rattle.netlist.specs.Circuits.{Netlist, faultAt}
 use Rattle.netlist.specs.Parsing.{onParse, parseOf}
 use Rattle.simulation.specs.Rows.{rowsOf}
 use Rattle.transform.specs.Spectrum.{spectrumOf}
+use Rattle.screen.specs.Answers.{refuseIf}
 use Rattle.screen.specs.declared.Answer.{Answer}
 use Rattle.screen.specs.declared.Answer.the-variants.{Done, Refused}
 
 -- 8 unless there is room for 2^N coefficients
 unfoldable pub roomAnswer : ℕ → ℕ → Answer
-roomAnswer inputs room = cond (ltb room (2 ^ inputs)) (Refused 8 0) Done
+roomAnswer inputs room = refuseIf (ltb room (2 ^ inputs)) 8 0 Done
 
 unfoldable pub faultAnswer : ℕ → ℕ → Netlist → Answer
-faultAnswer fault room n = cond (ltb (length (n .faults)) fault) (Refused 12 0) (roomAnswer (n .inputs) room)
+faultAnswer fault room n = refuseIf (ltb (length (n .faults)) fault) 12 0 (roomAnswer (n .inputs) room)
 
 -- a text that is not accepted is refused by its own number and place, before the call's tests
 unfoldable pub circuitAnswer : List ℕ → ℕ → ℕ → Answer

@@ -8,7 +8,7 @@ ghost use lib.ListN.{length};
 ghost use Rattle.integer.specs.Tab.{Within};
 ghost use Rattle.netlist.specs.Circuits.{netlistOf, Sized};
 ghost use Rattle.simulation.specs.Rows.{rowsOf};
-ghost use Rattle.screen.specs.Answers.{leaves};
+ghost use Rattle.walsh.specs.Results.{leaves};
 ghost use Rattle.transform.specs.Spectrum.{spectrumOf};
 ghost use Rattle.circuit.specs.CircuitCall.{roomAnswer, circuitAnswer, circuitSpectrum};
 

@@ -5,11 +5,11 @@
 --   labels-count      there are 2 ^ k labels below 2 ^ k
 --   labels-all, labels-low, labels-below    they are the numbers below n
 --   labels-distinct   each stands once
---   labels-to, listed, passed, all-listed    a loop that lists them: those among the first i of the order; a label below n, one that is not, the end
+--   labels-to, listed, label-passed, all-listed    a loop that lists them: those among the first i of the order; a label below n, one that is not, the end
 use mathlib.Core.Path.{_≡_, refl, sym, ap, ap₂, _∙_, subst}
-use mathlib.Core.Bool.{Bool, true, false, cond, _&&_}
-use mathlib.Core.List.{List, [], _∷_, _++_, append-nil, List·Memᴰ, List·Memᴰ·head, List·Memᴰ·tail}
-use Prim.Native.Nat.{ℕ, zero, suc, _+_, _<_, _≤_, _^_}
+use mathlib.Core.Bool.{Bool, true, cond, _&&_}
+use mathlib.Core.List.{List, [], _∷_, _++_, append-nil, List·Memᴰ}
+use Prim.Native.Nat.{ℕ, _+_, _<_, _≤_, _^_}
 use native.Mathlib.Numerals.{add-one}
 use native.Mathlib.Omega.{arith}
 use lib.Count.{ones}
@@ -17,13 +17,13 @@ use lib.Dec.{eqb}
 use lib.ListN.{length, getD, take, set}
 use lib.Seq.{take-suc, take-suc-set, take-all, length-take-le}
 use borrow.Author.Tests.{eqb-true, lt-ltb, le-ltb, ltb-true}
+use Rattle.integer.specs.Counting.{allBelow, count}
+use Rattle.integer.specs.ListTests.{keep, has, distinct, Below}
 use Rattle.integer.proofs.Bools.{both}
-use Rattle.cover.specs.Cover.{allBelow}
-use Rattle.cover.specs.Order.{keep, count, withOnes, byOnes, order, below, labelsBelow, earlier, rising}
-use Rattle.cover.specs.Sets.{has, distinct}
-use Rattle.cover.specs.Steps.{Below}
-use Rattle.cover.proofs.Sets.{keep-sub, sub-distinct}
-use Rattle.cover.proofs.Tests.{all-each, has-mem, keep-mem, mem-keep}
+use Rattle.integer.proofs.Subsequences.{keep-sub, sub-distinct}
+use Rattle.integer.proofs.NumbersBelow.{all-each}
+use Rattle.integer.proofs.Entries.{at-mem, has-mem, keep-mem, mem-keep, keep-append}
+use Rattle.cover.specs.Order.{withOnes, byOnes, order, below, labelsBelow, earlier, rising}
 
 unfoldable pub in-table : ℕ → Bool
 in-table label = has label order
@@ -71,11 +71,6 @@ pub labels-low : (n l : ℕ) → List·Memᴰ l (labelsBelow n) → l < n
 unfolding labelsBelow below
 labels-low n l m = ltb-true l n (mem-keep (below n) order l m .1)
 
-pub at-mem : (l : List ℕ) (i : ℕ) → i < length l → List·Memᴰ (getD l i 0) l
-at-mem [] i h = absurd (omega arith)
-at-mem (x ∷ l) zero h = List·Memᴰ·head refl
-at-mem (x ∷ l) (suc i) h = List·Memᴰ·tail (at-mem l i (omega arith))
-
 pub labels-below : (n : ℕ) → Below n (labelsBelow n)
 labels-below n i h = labels-low n (getD (labelsBelow n) i 0) (at-mem (labelsBelow n) i h)
 
@@ -86,15 +81,6 @@ order-below = labels-below 256
 pub labels-distinct : (n : ℕ) → distinct (labelsBelow n) ≡ true
 unfolding labelsBelow
 labels-distinct n = sub-distinct (labelsBelow n) order (keep-sub (below n) order) order-distinct
-
-keep-append : (p : ℕ → Bool) (a b : List ℕ) → keep p (a ++ b) ≡ keep p a ++ keep p b
-unfolding keep
-keep-append p [] b = refl
-keep-append p (x ∷ a) b = go (p x) (keep-append p a b)
-  where
-    go : (t : Bool) → keep p (a ++ b) ≡ keep p a ++ keep p b → cond t (x ∷ keep p (a ++ b)) (keep p (a ++ b)) ≡ cond t (x ∷ keep p a) (keep p a) ++ keep p b
-    go true e = ap (λ (l : List ℕ). x ∷ l) e
-    go false e = e
 
 module _ (n : ℕ) where
   abbrev pub labels-to : ℕ → List ℕ

@@ -1,11 +1,10 @@
+pub mod Clearing
 pub mod LabelOrder
 pub mod Marking
-pub mod Masks
 pub mod Pruning
 pub mod Rising
 pub mod Searching
 pub mod Sets
+pub mod SetsBySize
 pub mod Signatures
-pub mod Sizes
 pub mod Table
-pub mod Tests

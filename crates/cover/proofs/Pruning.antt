@@ -2,11 +2,10 @@
 --   pruned                                 where it lacks some of what is missing, nothing is found from there on
 --   UnionsFrom, unions-last, unions-more   the list of unions, as a loop writes it from its end
 use mathlib.Core.Path.{_≡_, refl, sym, ap, _∙_}
-use mathlib.Core.Bool.{Bool, true, false, not, _&&_, _||_, or-true}
-use mathlib.Core.Logic.{⊎-elim}
-use mathlib.Core.List.{List, [], _∷_, List·Memᴰ, List·Memᴰ·head, List·Memᴰ·tail, List·Memᴰ·not-nil, List·Memᴰ·cases-cons}
+use mathlib.Core.Bool.{Bool, true, false, not, _&&_}
+use mathlib.Core.List.{List, [], _∷_, List·Memᴰ, List·Memᴰ·head, List·Memᴰ·tail}
 use mathlib.Core.Option.{Option, none, some}
-use Prim.Native.Nat.{ℕ, zero, suc, _+_, _-_, _<_, _≤_}
+use Prim.Native.Nat.{ℕ, suc, _+_, _-_, _<_, _≤_}
 use native.Mathlib.Nat.{lt-of-not-le}
 use native.Mathlib.Omega.{arith}
 use native.Mathlib.Decide.{decLe}
@@ -15,19 +14,14 @@ use lib.Dec.{eqb}
 use lib.ListN.{length, getD, drop, set}
 use lib.Seq.{drop-cons, drop-length, getD-drop, getD-set-same, getD-set-other}
 use borrow.Author.Tests.{eqb-true, eqb-false, not-true}
+use Rattle.integer.specs.Counting.{count}
+use Rattle.integer.specs.Mask.{bit, without, unionOf}
 use Rattle.integer.proofs.Bools.{clash}
-use Rattle.cover.specs.Order.{count}
+use Rattle.integer.proofs.Masks.{bit-without, bit-zero, in-union, no-bits}
+use Rattle.integer.proofs.NumbersBelow.{count-low}
 use Rattle.cover.specs.Sets.{setsOf}
-use Rattle.cover.specs.Steps.{bit, without, clears, sought, unionOf, Unions}
-use Rattle.cover.proofs.Masks.{bit-or, bit-without, bit-zero, no-bits}
-use Rattle.cover.proofs.Sizes.{first-found, sets-sub}
-
--- a bit of a mask is a bit of the union
-in-union : (ms : List ℕ) (j f : ℕ) → bit (getD ms j 0) f ≡ true → bit (unionOf ms) f ≡ true
-unfolding unionOf
-in-union [] j f e = clash (sym e ∙ bit-zero f)
-in-union (m ∷ ms) zero f e = bit-or m (unionOf ms) f ∙ ap (λ (b : Bool). b || bit (unionOf ms) f) e
-in-union (m ∷ ms) (suc j) f e = bit-or m (unionOf ms) f ∙ ap (λ (b : Bool). bit m f || b) (in-union ms j f e) ∙ or-true (bit m f)
+use Rattle.cover.specs.Steps.{clears, sought, Unions}
+use Rattle.cover.proofs.SetsBySize.{first-found, sets-sub}
 
 -- the bits of a mask that places clear are bits of each mask that has theirs
 cleared-bit : (masks : List ℕ) (u f m : ℕ) (is : List ℕ) → ((i : ℕ) → List·Memᴰ i is → bit (getD masks i 0) f ≡ true → bit u f ≡ true)
@@ -39,11 +33,6 @@ cleared-bit masks u f m (i ∷ is) h e b = go (cleared-bit masks u f (without m 
     go : (bit (without m (getD masks i 0)) f ≡ true → bit u f ≡ true) → (t : Bool) → bit (getD masks i 0) f ≡ t → bit u f ≡ true
     go ih true t = h i (List·Memᴰ·head refl) t
     go ih false t = ih (bit-without m (getD masks i 0) f ∙ rw (b, t))
-
-count-low : (from n j : ℕ) → List·Memᴰ j (count from n) → from ≤ j
-unfolding count
-count-low from zero j m = absurd (List·Memᴰ·not-nil m)
-count-low from (suc n) j m = ⊎-elim (λ e. omega arith) (λ k. let ih = count-low (suc from) n j k in omega arith) (List·Memᴰ·cases-cons m)
 
 unreached : (masks : List ℕ) (i k m : ℕ) → (without m (unionOf (drop i masks)) ≡ 0 → ⊥) → sought masks i k m ≡ none
 unfolding sought

@@ -14,12 +14,14 @@ use lib.Count.{ones}
 use lib.Dec.{eqb, ltb}
 use lib.ListN.{length}
 use borrow.Author.Tests.{eqb-true, eqb-false, eq-eqb, lt-ltb, ltb-true}
+use Rattle.integer.specs.ListTests.{subsequence}
 use Rattle.integer.proofs.Bools.{clash, both, either}
+use Rattle.integer.proofs.Subsequences.{keep-sub, sub-mem}
 use Rattle.cover.specs.Order.{below, order, labelsBelow, earlier, rising}
-use Rattle.cover.specs.Sets.{setsOf, subsequence, precedes}
+use Rattle.cover.specs.Sets.{setsOf, precedes}
 use Rattle.cover.proofs.LabelOrder.{order-rising}
-use Rattle.cover.proofs.Sets.{Earliest, keep-sub, sub-mem}
-use Rattle.cover.proofs.Sizes.{sets-length, sets-sub}
+use Rattle.cover.proofs.Sets.{Earliest}
+use Rattle.cover.proofs.SetsBySize.{sets-length, sets-sub}
 
 -- The order of two labels.
 

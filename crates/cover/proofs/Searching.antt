@@ -13,14 +13,15 @@ use native.Mathlib.Omega.{arith}
 use lib.Dec.{eqb}
 use lib.ListN.{length, length-map, getD}
 use borrow.Author.Tests.{not-true, not-false}
+use Rattle.integer.specs.Counting.{count, upTo}
+use Rattle.integer.specs.Mask.{without}
 use Rattle.integer.proofs.Bools.{both}
-use Rattle.cover.specs.Order.{count}
-use Rattle.cover.specs.Sets.{setsOf, firstOf, orElse, planFrom, upTo}
-use Rattle.cover.specs.Steps.{without, clears, sought, namedOf, labelsAt, choiceOf, setAt}
+use Rattle.cover.specs.Sets.{setsOf, firstOf, orElse, planFrom}
+use Rattle.cover.specs.Steps.{clears, sought, namedOf, labelsAt, choiceOf, setAt}
 use Rattle.cover.specs.declared.Choice.{Choice}
 use Rattle.cover.specs.declared.Choice.the-variants.{Nothing, Chosen}
 use Rattle.cover.specs.declared.Labels.{Labels}
-use Rattle.cover.proofs.Sizes.{first-found, sets-length, plan-step}
+use Rattle.cover.proofs.SetsBySize.{first-found, sets-length, plan-step}
 
 abbrev push : ℕ → Option (List ℕ) → Option (List ℕ)
 push i none = none

@@ -11,53 +11,36 @@
 --   signature-first         of the covering lists of its size whose labels stand in the order, it is the first
 use mathlib.Core.Path.{_≡_, refl, sym, ap, _∙_}
 use mathlib.Core.Bool.{Bool, true, false, not}
-use mathlib.Core.Logic.{⊎-elim}
-use mathlib.Core.List.{List, [], _∷_, List·Memᴰ, List·Memᴰ·not-nil, List·Memᴰ·cases-cons}
+use mathlib.Core.List.{List, [], _∷_, List·Memᴰ, List·Memᴰ·not-nil}
 use mathlib.Core.Option.{none, some}
 use Prim.Native.Nat.{ℕ, zero, suc, _+_, _-_, _<_, _≤_, _^_}
 use native.Mathlib.Omega.{arith}
-use lib.Dec.{eqb}
-use lib.IntN.{ℤ, _-ℤ_, natAbs, +ℤ-invr}
+use lib.IntN.{ℤ}
 use lib.ListN.{length, getD, drop, drop-of-length-le}
 use lib.Seq.{drop-cons}
-use borrow.Author.Tests.{eqb-true, eqb-false, not-true, not-false}
+use borrow.Author.Tests.{not-true, not-false}
 use Rattle.integer.specs.Tab.{nth}
+use Rattle.integer.specs.Differ.{differ}
+use Rattle.integer.specs.Counting.{count, upTo}
+use Rattle.integer.specs.ListTests.{distinct, subsequence}
+use Rattle.integer.specs.Mask.{bit}
 use Rattle.integer.proofs.Firsts.{first-at, first-before}
-use Rattle.integer.proofs.Group.{equal-by-size}
+use Rattle.integer.proofs.Masks.{bit-mask}
+use Rattle.integer.proofs.NumbersBelow.{all-same, each-all, all-each, some-fails, count-high}
+use Rattle.integer.proofs.Subsequences.{sub-distinct}
+use Rattle.integer.proofs.Entries.{any-some, some-any, any-mapped}
+use Rattle.integer.proofs.Differing.{differ-eq, differ-ne, eq-differ, ne-differ}
 use Rattle.transform.specs.Spectrum.{coefficientOf}
-use Rattle.cover.specs.Cover.{differ, faultRows, covers, coversFault, coversAll, sameAt, silent, silentAt, firstSilent, signatureOf}
-use Rattle.cover.specs.Order.{count, labelsBelow, rising}
-use Rattle.cover.specs.Sets.{planOf, setsOf, upTo, distinct, subsequence, precedes}
-use Rattle.cover.specs.Steps.{bit, clears, labelsAt, setOf, setAt, coversAt, maskAt, masksOf}
+use Rattle.cover.specs.Cover.{faultRows, covers, coversFault, coversAll, sameAt, silent, silentAt, firstSilent, signatureOf}
+use Rattle.cover.specs.Order.{labelsBelow, rising}
+use Rattle.cover.specs.Sets.{planOf, setsOf, precedes}
+use Rattle.cover.specs.Steps.{clears, labelsAt, setOf, setAt, coversAt, maskAt, masksOf}
 use Rattle.cover.proofs.LabelOrder.{labels-count, labels-all, labels-low, labels-distinct}
-use Rattle.cover.proofs.Marking.{bit-mask, length-masks, masks-at}
-use Rattle.cover.proofs.Masks.{all-same, each-all, clears-full}
+use Rattle.cover.proofs.Marking.{length-masks, masks-at}
+use Rattle.cover.proofs.Clearing.{clears-full}
 use Rattle.cover.proofs.Rising.{sub-rising, labels-rising, first-precedes}
-use Rattle.cover.proofs.Sets.{plan-found, first-earliest, least, none-less, in-order, sub-distinct, plan-mapped}
-use Rattle.cover.proofs.Sizes.{sets-sub}
-use Rattle.cover.proofs.Tests.{any-some, some-any, all-each, some-fails, any-mapped}
-
--- Two numbers differ.
-
-pub differ-ne : (a b : ℤ) → differ a b ≡ true → a ≡ b → ⊥
-differ-ne a b e k = eqb-false (natAbs (a -ℤ b)) 0 (not-true (eqb (natAbs (a -ℤ b)) 0) e) (ap natAbs (ap (λ (z : ℤ). z -ℤ b) k ∙ +ℤ-invr b))
-
-pub differ-eq : (a b : ℤ) → differ a b ≡ false → a ≡ b
-differ-eq a b e = equal-by-size a b (eqb-true (natAbs (a -ℤ b)) 0 (not-false (eqb (natAbs (a -ℤ b)) 0) e))
-
-pub ne-differ : (a b : ℤ) → (a ≡ b → ⊥) → differ a b ≡ true
-ne-differ a b n = go (differ a b) refl
-  where
-    go : (t : Bool) → differ a b ≡ t → t ≡ true
-    go true e = refl
-    go false e = absurd (n (differ-eq a b e))
-
-pub eq-differ : (a b : ℤ) → a ≡ b → differ a b ≡ false
-eq-differ a b k = go (differ a b) refl
-  where
-    go : (t : Bool) → differ a b ≡ t → t ≡ false
-    go true e = absurd (differ-ne a b e k)
-    go false e = refl
+use Rattle.cover.proofs.Sets.{plan-found, first-earliest, least, none-less, in-order, plan-mapped}
+use Rattle.cover.proofs.SetsBySize.{sets-sub}
 
 -- Silent faults.
 
@@ -121,11 +104,6 @@ at-all : (ls : List ℕ) (n from : ℕ) → from + n ≡ length ls → labelsAt 
 unfolding count
 at-all ls zero from e = let h : length ls ≤ from = omega arith in sym (drop-of-length-le ls h)
 at-all ls (suc n) from e = ap (λ (l : List ℕ). getD ls from 0 ∷ l) (at-all ls n (suc from) (omega arith)) ∙ sym (drop-cons ls from 0 (omega arith))
-
-count-high : (n from x : ℕ) → List·Memᴰ x (count from n) → x < from + n
-unfolding count
-count-high zero from x m = absurd (List·Memᴰ·not-nil m)
-count-high (suc n) from x m = ⊎-elim (λ e. omega arith) (λ k. let h = count-high n (suc from) x k in omega arith) (List·Memᴰ·cases-cons m)
 
 module _ (sound : List ℤ) (faults : List (List ℤ)) (labels : List ℕ) where
   -- a set of places leaves nothing missing where its labels cover every fault

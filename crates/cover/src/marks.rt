@@ -4,8 +4,9 @@ ghost use mathlib.Core.Path.{_≡_};
 ghost use Prim.Native.Nat.{_≤_, _<_, _^_};
 ghost use lib.ListN.{length, replicate};
 ghost use Rattle.integer.specs.Tab.{Within};
+ghost use Rattle.integer.specs.ListTests.{Below};
 ghost use Rattle.cover.specs.Cover.{silent};
-ghost use Rattle.cover.specs.Steps.{Below, differences, bitAdded, marked};
+ghost use Rattle.cover.specs.Steps.{differences, bitAdded, marked};
 
 // No fault marked.
 pub fn clear(masks: &mut [u32])

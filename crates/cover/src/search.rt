@@ -8,8 +8,10 @@ ghost use mathlib.Core.Path.{_≡_};
 ghost use Prim.Native.Nat.{_+_, _≤_, _<_, _^_, _-_};
 ghost use lib.Dec.{eqb};
 ghost use lib.ListN.{length};
-ghost use Rattle.cover.specs.Sets.{planOf, upTo};
-ghost use Rattle.cover.specs.Steps.{Unions, without, clears, sought, choiceOf, setAt};
+ghost use Rattle.integer.specs.Counting.{upTo};
+ghost use Rattle.integer.specs.Mask.{without};
+ghost use Rattle.cover.specs.Sets.{planOf};
+ghost use Rattle.cover.specs.Steps.{Unions, clears, sought, choiceOf, setAt};
 
 // The union of the masks from each place on.
 fn unions(masks: &[u32], rest: &mut [u32])

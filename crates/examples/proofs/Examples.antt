@@ -7,6 +7,8 @@ use lib.Ieee.{span, climb, size, odd, units, round, neg, sum, add, sub, div, ofI
 use Rattle.integer.specs.First.{firstFrom, firstWhere}
 use Rattle.integer.specs.Sum.{sumTo}
 use Rattle.integer.specs.Tab.{tab}
+use Rattle.integer.specs.ListTests.{keep, any}
+use Rattle.integer.specs.Counting.{count, allBelow}
 use Rattle.screen.specs.Answers.{inputsTo, inputsOf, outside, outsideAt, firstOutside, screenOf}
 use Rattle.walsh.specs.Coefficients.{foundOf}
 use Rattle.walsh.specs.Lists.{spectrumAnswer, unfit, unfitAt, firstUnfit, dividedAnswer, quotientAt, quotientsOf, inverseRows, rowsAnswer}
@@ -22,9 +24,9 @@ use Rattle.gates.specs.Gates.{gateValue, stuckOr, shown}
 use Rattle.simulation.specs.Rows.{inputValues, gateNext, gatesNext, lineValues, rowValue, rowsOf}
 use Rattle.reading.specs.Readings.{agrees, countTo, countOf, wholeSum, quotient, meanOf, caseOf, pairOf}
 use Rattle.writing.specs.Writing.{decimalTo, decimalOf, integerOf, gather, numberField, numbersOf, lineOf}
-use Rattle.cover.specs.Order.{keep, count, withOnes, byOnes, order, below, labelsBelow}
+use Rattle.cover.specs.Order.{withOnes, byOnes, order, below, labelsBelow}
 use Rattle.cover.specs.Sets.{setsOf, firstOf, planFrom, planOf}
-use Rattle.cover.specs.Cover.{any, allBelow, covers, coversFault, coversAll, sameAt, silent, silentAt, firstSilent, signatureOf}
+use Rattle.cover.specs.Cover.{covers, coversFault, coversAll, sameAt, silent, silentAt, firstSilent, signatureOf}
 use Rattle.fixture.specs.ReadingCall.{fixesInputs, someAboveOne, isWeighted, faultMean, readingAnswer, unread, pairNumbers, namesFault, pairAnswer}
 use Rattle.planner.specs.PlanCall.{silentFirst, verdictOf, planVerdict, planAnswer}
 use Rattle.circuit.specs.CircuitCall.{roomAnswer, faultAnswer, circuitAnswer, faultSpectrum, circuitSpectrum}

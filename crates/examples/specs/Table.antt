@@ -15,7 +15,8 @@ use Rattle.reading.specs.declared.Reading.{Reading}
 use Rattle.reading.specs.declared.Reading.the-variants.{Syndrome, Weighted, Constrained, Refused}
 use Rattle.report.specs.ReportCall.{reportBytes, reportAnswer, reportLeft}
 use Rattle.report.specs.declared.Reported.{Reported}
-use Rattle.screen.specs.Answers.{minus, leaves}
+use Rattle.screen.specs.Answers.{minus}
+use Rattle.walsh.specs.Results.{leaves}
 use Rattle.walsh.specs.Coefficients.{foundOf}
 use Rattle.walsh.specs.Lists.{spectrumAnswer, rowsAnswer, inverseRows}
 use Rattle.transform.specs.Spectrum.{coefficientOf, spectrumOf}
@@ -44,7 +45,7 @@ pub data Case : Type 0 where
   -- a circuit's text and its report
   report : List ℕ → List ℕ → Case
   -- a circuit's text, a mask of fixed inputs, their values and the reading
-  reads : List ℕ → ℕ → ℕ → Reading → Case
+  reading : List ℕ → ℕ → ℕ → Reading → Case
   -- a circuit's text, the number of a fault, a mask, its values and the readings: sound, faulty, and sound minus faulty
   compares : List ℕ → ℕ → ℕ → ℕ → Float → Float → Float → Case
 
@@ -96,7 +97,7 @@ Holds (total text rows fault z) = nth (circuitLeft text fault rows) 0 ≡ z
 Holds (plan text labels) = planAnswer text workingNumbers ≡ planNumbers (planned labels)
 Holds (noPlan text number place) = planAnswer text workingNumbers ≡ planNumbers (refused number place)
 Holds (report text bytes) = (reported text .number ≡ 0) × (reportedBytes text ≡ bytes)
-Holds (reads text mask values r) = readingAnswer text mask values ≡ r
+Holds (reading text mask values r) = readingAnswer text mask values ≡ r
 Holds (compares text fault mask values sound faulty difference) =
     pairAnswer text fault mask values ≡ record { number = 0; place = 0; readings = record { sound = sound; faulty = faulty; difference = difference } }
 
@@ -152,17 +153,17 @@ table =
     ∷ noPlan (pairText "circuit,2,4,2,2,1") 14 0
     ∷ plan (pairText "circuit,2,4,2,2,2") (1 ∷ 2 ∷ [])
     -- 129 ones in 256 rows are 0.50390625, and 128 are 0.5
-    ∷ reads halfAndOneText 0 0 (Syndrome (plus 50390625 8))
+    ∷ reading halfAndOneText 0 0 (Syndrome (plus 50390625 8))
     ∷ compares halfAndOneText 1 0 0 (plus 50390625 8) (plus 5 1) (plus 390625 8)
     -- x1 to x7 at 1 leave two rows, both ones: under the fault one
-    ∷ reads halfAndOneText 127 127 (Constrained (plus 1 0) 7)
+    ∷ reading halfAndOneText 127 127 (Constrained (plus 1 0) 7)
     ∷ compares halfAndOneText 1 127 127 (plus 1 0) (plus 5 1) (plus 5 1)
     -- x1x2 + x3 with x1 at 1, sound and with x3 stuck at 1; every input fixed; a value that is not within its mask
-    ∷ reads productOrInputText 1 1 (Constrained (plus 75 2) 1)
+    ∷ reading productOrInputText 1 1 (Constrained (plus 75 2) 1)
     ∷ compares productOrInputText 4 1 1 (plus 75 2) (plus 1 0) (less 25 2)
-    ∷ reads productOrInputText 7 4 (Constrained (plus 1 0) 3)
-    ∷ reads productOrInputText 1 2 (Refused 12 0)
+    ∷ reading productOrInputText 7 4 (Constrained (plus 1 0) 3)
+    ∷ reading productOrInputText 1 2 (Refused 12 0)
     -- two outputs make a weighted sum; a fixed input goes first
-    ∷ reads (pairText "circuit,2,4,2,2,1") 0 0 (Weighted (plus 1 0))
-    ∷ reads (pairText "circuit,2,4,2,2,1") 1 0 (Constrained (plus 5 1) 1)
+    ∷ reading (pairText "circuit,2,4,2,2,1") 0 0 (Weighted (plus 1 0))
+    ∷ reading (pairText "circuit,2,4,2,2,1") 1 0 (Constrained (plus 5 1) 1)
     ∷ []

@@ -1,5 +1,4 @@
 -- The lines and values that a fault call is given:
---   both                                                a test made of two tests
 --   signed-none, signed-some                            `signed` at 0, and at another number
 --   binary-stop, -next, -end                            `binary`, one value after the other
 --   rising-low, -high, -next, -end                      `risingInputs`, one line after the other
@@ -13,7 +12,7 @@
 --   OpenedCall, opened-call                             what a call with right arguments knows
 use mathlib.Core.Path.{_≡_, refl, sym, ap, _∙_, subst}
 use mathlib.Core.List.{List, [], _∷_}
-use mathlib.Core.Bool.{Bool, true, false, cond}
+use mathlib.Core.Bool.{Bool, true, false, cond, _&&_}
 use Prim.Native.Nat.{ℕ, zero, suc, _+_, _-_, _^_, _≤_, _<_}
 use native.Mathlib.Numerals.{add-one}
 use native.Mathlib.Omega.{arith}
@@ -24,17 +23,13 @@ use lib.Pow.{pow-mono}
 use lib.Seq.{drop-cons}
 use borrow.Author.Tests.{ltb-true, leb-true, eqb-true, lt-ltb, le-ltb, le-leb, lt-leb, eq-eqb, ne-eqb}
 use Rattle.integer.specs.Sum.{signed}
-use Rattle.integer.proofs.Bools.{clash}
+use Rattle.integer.proofs.Bools.{both}
 use Rattle.screen.specs.Answers.{inputsOf}
 use Rattle.screen.proofs.Screens.{inputs-most, inputs-power}
 use Rattle.faults.specs.Faults.{keptInputs, stuckOf, risingInputs, binary, fewOf, stuckRight, openedRight, linesAfter}
 use Rattle.faults.specs.Steps.{keptOf}
 use Rattle.faults.proofs.Sticking.{Rises, Values}
 use Rattle.faults.proofs.Opening.{Bits}
-
-pub both : (a b : Bool) → cond a b false ≡ true → (a ≡ true) × (b ≡ true)
-both true b e = (refl, e)
-both false b e = clash (sym e)
 
 pub signed-none : (p : ℕ) (z : ℤ) → p ≡ 0 → signed p z ≡ z
 signed-none zero z e = refl
@@ -49,53 +44,48 @@ signed-some (suc p) z f = refl
 module _ (values : List ℕ) (i : ℕ) where
   pub binary-stop : i < length values → 1 < getD values i 0 → binary (drop i values) ≡ false
   unfolding binary
-  binary-stop h g = ap binary (drop-cons values i 0 h) ∙ ap (λ (b : Bool). cond b (binary (drop (suc i) values)) false) (lt-leb (getD values i 0) 1 g)
+  binary-stop h g = rw (drop-cons values i 0 h, lt-leb (getD values i 0) 1 g)
 
   pub binary-next : i < length values → getD values i 0 ≤ 1 → binary (drop i values) ≡ binary (drop (i + 1) values)
   unfolding binary
-  binary-next h g =
-      ap binary (drop-cons values i 0 h) ∙ ap (λ (b : Bool). cond b (binary (drop (suc i) values)) false) (le-leb (getD values i 0) 1 g)
-      ∙ ap (λ (k : ℕ). binary (drop k values)) (sym (add-one i))
+  binary-next h g = rw (drop-cons values i 0 h, le-leb (getD values i 0) 1 g, add-one i)
 
   pub binary-end : length values ≤ i → binary (drop i values) ≡ true
   unfolding binary
-  binary-end h = ap binary (drop-of-length-le values h)
+  binary-end h = rw (drop-of-length-le values h)
 
 module _ (last n : ℕ) (lines : List ℕ) (i : ℕ) where
-  abbrev inner : ℕ → Bool
-  inner line = cond (leb line n) (risingInputs line n (drop (suc i) lines)) false
-
   pub rising-low : i < length lines → getD lines i 0 ≤ last → risingInputs last n (drop i lines) ≡ false
   unfolding risingInputs
-  rising-low h g = ap (risingInputs last n) (drop-cons lines i 0 h) ∙ ap (λ (b : Bool). cond b (inner (getD lines i 0)) false) (le-ltb last (getD lines i 0) g)
+  rising-low h g = rw (drop-cons lines i 0 h, le-ltb last (getD lines i 0) g)
 
   module _ (h : i < length lines) (above : last < getD lines i 0) where
-    passed : risingInputs last n (drop i lines) ≡ inner (getD lines i 0)
-    unfolding risingInputs
-    passed = ap (risingInputs last n) (drop-cons lines i 0 h) ∙ ap (λ (b : Bool). cond b (inner (getD lines i 0)) false) (lt-ltb last (getD lines i 0) above)
-
     pub rising-high : n < getD lines i 0 → risingInputs last n (drop i lines) ≡ false
-    rising-high g = passed ∙ ap (λ (b : Bool). cond b (risingInputs (getD lines i 0) n (drop (suc i) lines)) false) (lt-leb (getD lines i 0) n g)
+    unfolding risingInputs
+    rising-high g = rw (drop-cons lines i 0 h, lt-ltb last (getD lines i 0) above, lt-leb (getD lines i 0) n g)
 
     pub rising-next : getD lines i 0 ≤ n → risingInputs last n (drop i lines) ≡ risingInputs (getD lines i 0) n (drop (i + 1) lines)
-    rising-next g =
-        passed ∙ ap (λ (b : Bool). cond b (risingInputs (getD lines i 0) n (drop (suc i) lines)) false) (le-leb (getD lines i 0) n g)
-        ∙ ap (λ (k : ℕ). risingInputs (getD lines i 0) n (drop k lines)) (sym (add-one i))
+    unfolding risingInputs
+    rising-next g = rw (drop-cons lines i 0 h, lt-ltb last (getD lines i 0) above, le-leb (getD lines i 0) n g, add-one i)
 
   pub rising-end : length lines ≤ i → risingInputs last n (drop i lines) ≡ true
   unfolding risingInputs
-  rising-end h = ap (risingInputs last n) (drop-of-length-le lines h)
+  rising-end h = rw (drop-of-length-le lines h)
 
 -- What the tests mean.
 
+rising-parts : (last n i : ℕ) (rest : List ℕ) → risingInputs last n (i ∷ rest) ≡ true → (last < i) × (i ≤ n) × (risingInputs i n rest ≡ true)
+unfolding risingInputs
+rising-parts last n i rest e =
+    let p = both (ltb last i) (leb i n && risingInputs i n rest) e in
+    let q = both (leb i n) (risingInputs i n rest) (p .1) in
+    (ltb-true last i (p .0), leb-true i n (q .0), q .1)
+
 pub rising-rises : (last n : ℕ) (lines values : List ℕ) → risingInputs last n lines ≡ true → Rises last n (stuckOf lines values)
-unfolding risingInputs stuckOf
+unfolding stuckOf
 rising-rises last n [] values e = tt
 rising-rises last n (i ∷ rest) [] e = tt
-rising-rises last n (i ∷ rest) (v ∷ values) e =
-    let p = both (ltb last i) (cond (leb i n) (risingInputs i n rest) false) e in
-    let q = both (leb i n) (risingInputs i n rest) (p .1) in
-    (ltb-true last i (p .0), leb-true i n (q .0), rising-rises i n rest values (q .1))
+rising-rises last n (i ∷ rest) (v ∷ values) e = let p = rising-parts last n i rest e in (p .0, p .1, rising-rises i n rest values (p .2))
 
 pub rising-cons : (last n i : ℕ) (rest : List ℕ) → last < i → i ≤ n → risingInputs i n rest ≡ true → risingInputs last n (i ∷ rest) ≡ true
 unfolding risingInputs
@@ -106,14 +96,10 @@ unfolding risingInputs
 rising-suffix last n [] zero e = refl
 rising-suffix last n [] (suc i) e = refl
 rising-suffix last n (line ∷ rest) zero e =
-    let p = both (ltb last line) (cond (leb line n) (risingInputs line n rest) false) e in
-    let q = both (leb line n) (risingInputs line n rest) (p .1) in
-    let h = ltb-true last line (p .0) in
-    rising-cons 0 n line rest (omega arith) (leb-true line n (q .0)) (q .1)
-rising-suffix last n (line ∷ rest) (suc i) e =
-    let p = both (ltb last line) (cond (leb line n) (risingInputs line n rest) false) e in
-    let q = both (leb line n) (risingInputs line n rest) (p .1) in
-    rising-suffix line n rest i (q .1)
+    let p = rising-parts last n line rest e in
+    let h = p .0 in
+    rising-cons 0 n line rest (omega arith) (p .1) (p .2)
+rising-suffix last n (line ∷ rest) (suc i) e = rising-suffix line n rest i (rising-parts last n line rest e .2)
 
 pub length-stuck-of : (lines values : List ℕ) → length (stuckOf lines values) ≤ length lines
 unfolding stuckOf
@@ -165,7 +151,7 @@ module _ (n : ℕ) (inputs values : List ℕ) where
   unfolding stuckRight
   stuck-uneven e f = rw (e, ne-eqb (length values) (length inputs) f)
 
-  pub stuck-binary : fewOf (length inputs) ≡ true → length values ≡ length inputs → stuckRight n inputs values ≡ cond (binary values) (risingInputs 0 n inputs) false
+  pub stuck-binary : fewOf (length inputs) ≡ true → length values ≡ length inputs → stuckRight n inputs values ≡ (binary values && risingInputs 0 n inputs)
   unfolding stuckRight
   stuck-binary e f = rw (e, eq-eqb (length values) (length inputs) f)
 

@@ -7,7 +7,7 @@
 --   replaced-shows, replaced-keeps    a replaced input has its value in the row, and every other input what it had
 use mathlib.Core.Path.{_≡_, refl, sym, ap, _∙_}
 use mathlib.Core.List.{List}
-use mathlib.Core.Bool.{Bool, true, false, cond}
+use mathlib.Core.Bool.{Bool, true, false}
 use mathlib.Core.Logic.{_↔_}
 use Prim.Native.Nat.{ℕ, _+_, _-_, _%_, _^_, _≤_, _<_}
 use native.Mathlib.Nat.{lt-of-not-le}
@@ -19,7 +19,7 @@ use lib.ListN.{length}
 use borrow.Author.Tests.{le-ltb, lt-ltb, ltb-true, eq-eqb, ne-eqb}
 use Rattle.integer.proofs.Bools.{clash}
 use Rattle.integer.proofs.Firsts.{first-none, first-all, first-at}
-use Rattle.screen.specs.Answers.{answerNumber, andThen, minus, inputsOf, screenOf}
+use Rattle.screen.specs.Answers.{answerNumber, andThen, refuseIf, minus, inputsOf, screenOf}
 use Rattle.transform.specs.Spectrum.{spectrumOf}
 use Rattle.screen.specs.declared.Answer.{Answer}
 use Rattle.screen.specs.declared.Answer.the-variants.{Done, Refused}
@@ -63,8 +63,7 @@ module _ (rows : List ℤ) (values : List ℕ) (right : openedRight (inputsOf (l
       let all = first-none (undividedAt (spectrumOf rows) values) (2 ^ keptInputs (spectrumOf rows) values)
       (opened-divides rows values (keptInputs rows values) (inputsOf (length rows)) (inputs-power (length rows) some-inputs) refl parts
       (binary-bits values (opened-right-means (inputsOf (length rows)) values right .bits))) in
-      ap (λ (b : Bool). cond b (Refused 11 (firstUndivided (spectrumOf rows) values)) Done)
-      (le-ltb (firstUndivided (spectrumOf rows) values) (2 ^ keptInputs (spectrumOf rows) values) (omega arith))
+      rw (le-ltb (firstUndivided (spectrumOf rows) values) (2 ^ keptInputs (spectrumOf rows) values) (omega arith))
 
 -- the tests before 11
 abbrev pub screened : List ℤ → List ℕ → ℕ → Answer
@@ -103,15 +102,13 @@ module _ (c : List ℤ) (values : List ℕ) where
       passed : openedAnswer c values room ≡ undividedAnswer c values
       passed = ap (λ (a : Answer). andThen a (undividedAnswer c values)) e
 
-      to : (b : Bool) → ltb (firstUndivided c values) (2 ^ keptInputs c values) ≡ b → answerNumber (cond b (Refused 11 (firstUndivided c values)) Done) ≡ 11
+      to : (b : Bool) → ltb (firstUndivided c values) (2 ^ keptInputs c values) ≡ b → answerNumber (refuseIf b 11 (firstUndivided c values) Done) ≡ 11
           → (label : ℕ) × (label < 2 ^ keptInputs c values) × Undivided label
       to true t n = let l = ltb-true (firstUndivided c values) (2 ^ keptInputs c values) t in (firstUndivided c values, l, at-first l)
       to false t n = absurd (omega arith)
 
       from : (label : ℕ) × (label < 2 ^ keptInputs c values) × Undivided label → answerNumber (undividedAnswer c values) ≡ 11
-      from s =
-          ap (λ (b : Bool). answerNumber (cond b (Refused 11 (firstUndivided c values)) Done))
-          (lt-ltb (firstUndivided c values) (2 ^ keptInputs c values) (first-in (s .0) (s .1) (s .2)))
+      from s = rw (lt-ltb (firstUndivided c values) (2 ^ keptInputs c values) (first-in (s .0) (s .1) (s .2)))
 
 -- the tests before 11 passed
 right-of : (rows : List ℤ) (values : List ℕ) (room : ℕ) → screened (spectrumOf rows) values room ≡ Done → openedRight (inputsOf (length rows)) values ≡ true

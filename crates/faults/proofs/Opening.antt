@@ -6,11 +6,11 @@
 --   sums-answer, sums-quotients    divided by 2 ^ k they give the call's answer and its numbers
 use mathlib.Core.Path.{_≡_, refl, sym, ap, ap₂, _∙_, subst}
 use mathlib.Core.List.{List, [], _∷_}
-use mathlib.Core.Bool.{Bool, true, false, cond}
+use mathlib.Core.Bool.{Bool, false, not, cond, _||_, or-false}
 use Prim.Native.Nat.{ℕ, suc, _+_, _*_, _-_, _%_, _^_, _≤_, _<_}
 use native.Mathlib.Nat.{le-trans, div-eq-of-lt, div-le-of-le-mul}
 use native.Mathlib.Omega.{arith}
-use lib.Dec.{eqb, ltb}
+use lib.Dec.{ltb}
 use lib.IntN.{ℤ, pos, _+ℤ_, _*ℤ_, natAbs}
 use lib.ListN.{length, take}
 use lib.Pow.{pow-mono, pow-pos}
@@ -26,10 +26,10 @@ use Rattle.integer.proofs.Sums.{signed-scale}
 use Rattle.integer.proofs.Tabs.{length-tab, getD-tab, tab-ext, take-tab}
 use Rattle.integer.proofs.Halves.{double}
 use Rattle.transform.specs.Spectrum.{signedSum, spectrumOf}
-use Rattle.screen.specs.Answers.{minus, inputsOf, outside}
+use Rattle.screen.specs.Answers.{refuseIf, minus, inputsOf, outside}
 use Rattle.walsh.specs.Lists.{quotientOf, quotientAt, quotientsOf, unfit, unfitAt, firstUnfit, dividedAnswer}
 use Rattle.screen.specs.declared.Answer.{Answer}
-use Rattle.screen.specs.declared.Answer.the-variants.{Done, Refused}
+use Rattle.screen.specs.declared.Answer.the-variants.{Done}
 use Rattle.screen.proofs.Screens.{small-outside}
 use Rattle.transform.proofs.Spectra.{length-spectrum, nth-spectrum, spectrum-rule}
 use Rattle.faults.specs.Faults.{names, subsetSum, stuckCoefficientAt, stuckSpectrumOf, bitOf, keptInputs, linesAfter, openedSumAt, openedAt, openedSpectrumOf, undividedAt, firstUndivided, undividedAnswer, openedRowNumber, openedRow, openedRows}
@@ -97,7 +97,7 @@ module _ (rows : List ℤ) (values : List ℕ) (n m : ℕ) (size : length rows �
   pub opened-divides : (l : ℕ) → l < 2 ^ keptInputs (spectrumOf rows) values → undividedAt (spectrumOf rows) values l ≡ false
   unfolding undividedAt
   opened-divides l h =
-      ap (λ (c : Bool). cond c false true)
+      ap not
       (eq-eqb _ 0 (ap (λ (z : ℤ). natAbs z % 2 ^ length values) (sum-is l (subst (λ (k : ℕ). l < 2 ^ k) kept h)) ∙ multiple-mod (2 ^ length values) (signedSum (2 ^ n) (openedRow n values rows) l)))
 
 -- no label of the n inputs names a line behind them
@@ -107,7 +107,7 @@ names-none [] n c l h g = refl
 names-none (v ∷ rest) n c l h g =
     let small : l < 2 ^ (suc c - 1) = le-trans h (subst (λ (k : ℕ). 2 ^ n ≤ k) (sym (shift c)) (pow-mono g)) in
     let none : bitOf (suc c) l ≡ 0 = ap (λ (k : ℕ). k % 2) (div-eq-of-lt small) in
-    ap (λ (w : Bool). cond w (names (linesAfter (suc c) rest) l) true) (eq-eqb (bitOf (suc c) l) 0 none) ∙ names-none rest n (suc c) l h (omega arith)
+    ap₂ (λ (v w : Bool). not v || w) (eq-eqb (bitOf (suc c) l) 0 none) (names-none rest n (suc c) l h (omega arith))
 
 stuck-after : (values : List ℕ) (n : ℕ) (f : ℕ → ℤ) (l : ℕ) → l < 2 ^ n → stuckCoefficientAt (linesAfter n values) f l ≡ subsetSum (linesAfter n values) f l
 unfolding stuckCoefficientAt
@@ -122,7 +122,7 @@ length-after n (v ∷ rest) = ap suc (length-after (suc n) rest)
 
 -- 11 where the first sum that does not divide is before the end
 abbrev answer : ℕ → ℕ → Answer
-answer first n = cond (ltb first n) (Refused 11 first) Done
+answer first n = refuseIf (ltb first n) 11 first Done
 
 -- the sums at the labels of n inputs
 abbrev pub openedSums : List ℤ → List ℕ → ℕ → List ℤ
@@ -145,7 +145,7 @@ module _ (c : List ℤ) (values : List ℕ) (n : ℕ) (kept-is : keptInputs c va
 
     unfit-is : (l : ℕ) → unfit (2 ^ length values) (minus 2048000) (pos 2048000) (openedSumAt c values l) ≡ undividedAt c values l
     unfolding unfit undividedAt
-    unfit-is l = ap (λ (b : Bool). cond (eqb (natAbs (openedSumAt c values l) % 2 ^ length values) 0) b true) (quotient-inside l)
+    unfit-is l = rw (quotient-inside l, or-false)
 
     pub sums-answer : dividedAnswer (2 ^ length values) (minus 2048000) (pos 2048000) (openedSums c values n) ≡ undividedAnswer c values
     unfolding dividedAnswer undividedAnswer firstUnfit firstUndivided unfitAt

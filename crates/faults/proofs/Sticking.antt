@@ -6,7 +6,7 @@
 use mathlib.Core.Path.{_≡_, refl, sym, ap, ap₂, _∙_, subst}
 use mathlib.Core.Logic.{⊎-elim}
 use mathlib.Core.List.{List, [], _∷_}
-use mathlib.Core.Bool.{Bool, true, false, cond}
+use mathlib.Core.Bool.{Bool, true, false, not, cond, _||_}
 use Prim.Native.Nat.{ℕ, zero, suc, _+_, _*_, _-_, _/_, _%_, _^_, _≤_, _<_, zero-le}
 use native.Mathlib.Nat.{lt-of-not-le, le-trans, add-mul, mul-le-mul-right, one-mul, zero-mul, zero-add}
 use native.Mathlib.Decide.{decLe}
@@ -214,7 +214,7 @@ unfolding names
 names-add [] last n c y r l e = refl
 names-add (t ∷ rest) last n c y r l e =
     let same : bitOf (t .line) (y + 2 ^ c) ≡ bitOf (t .line) y = digit-beyond c (t .line - 1) y (let q = r .0 in omega arith) e in
-    ap₂ (λ (m : ℕ) (w : Bool). cond (eqb m 0) w true) same (names-add rest (t .line) n c y (r .2) (let q = r .0 in omega arith) e)
+    ap₂ (λ (m : ℕ) (w : Bool). not (eqb m 0) || w) same (names-add rest (t .line) n c y (r .2) (let q = r .0 in omega arith) e)
 
 signed-zero : (p : ℕ) → signed p (pos 0) ≡ pos 0
 signed-zero zero = refl
@@ -235,7 +235,7 @@ stuck-at-step s rest n f y first r = go (eqb (bitOf (s .line) y) 0) refl
     yes-case false e g = refl
 
     go : (w : Bool) → eqb (bitOf (s .line) y) 0 ≡ w
-        → cond (cond w (names rest y) true) (pos 0) (subsetSum (s ∷ rest) f y)
+        → cond (not w || names rest y) (pos 0) (subsetSum (s ∷ rest) f y)
         ≡ cond w (stuckCoefficientAt rest f y +ℤ signed (s .value) (stuckCoefficientAt rest f (y + 2 ^ (s .line - 1)))) (pos 0)
     go true e =
         let same = names-add rest (s .line) n (s .line - 1) y r (omega arith) (eqb-true (bitOf (s .line) y) 0 e) in

@@ -2,17 +2,17 @@
 -- fault does to rows. Input i is bit i - 1 of a row or a label.
 use Prim.Native.Nat.{ℕ, suc, _+_, _*_, _-_, _/_, _%_, _^_}
 use mathlib.Core.List.{List, [], _∷_}
-use mathlib.Core.Bool.{Bool, true, false, cond}
+use mathlib.Core.Bool.{Bool, true, false, not, cond, _&&_, _||_}
 use lib.IntN.{ℤ, pos, natAbs, _+ℤ_}
 use lib.Dec.{eqb, leb, ltb}
 use lib.ListN.{length}
 use Rattle.integer.specs.First.{firstWhere}
 use Rattle.integer.specs.Sum.{signed}
 use Rattle.integer.specs.Tab.{tab, nth}
-use Rattle.screen.specs.Answers.{andThen, minus, screenOf, inputsOf}
+use Rattle.screen.specs.Answers.{andThen, refuseIf, minus, screenOf, inputsOf}
 use Rattle.walsh.specs.Lists.{quotientOf}
 use Rattle.screen.specs.declared.Answer.{Answer}
-use Rattle.screen.specs.declared.Answer.the-variants.{Done, Refused}
+use Rattle.screen.specs.declared.Answer.the-variants.{Done}
 
 -- a line and the value at which it is stuck
 pub record Stuck : Type 0 where
@@ -32,7 +32,7 @@ bitOf i x = x / 2 ^ (i - 1) % 2
 -- the label names a stuck input
 unfoldable pub names : List Stuck → ℕ → Bool
 names [] label = false
-names (s ∷ rest) label = cond (eqb (bitOf (s .line) label) 0) (names rest label) true
+names (s ∷ rest) label = not (eqb (bitOf (s .line) label) 0) || names rest label
 
 -- "the sum over each subset of the stuck inputs of the coefficient at (label plus subset), negated once for each member stuck at 1":
 -- the subsets without the first input, and those with it
@@ -50,20 +50,20 @@ stuckSpectrumOf lines coefficients = tab (length coefficients) (stuckCoefficient
 -- rising from above `last`, none above n
 unfoldable pub risingInputs : ℕ → ℕ → List ℕ → Bool
 risingInputs last n [] = true
-risingInputs last n (i ∷ rest) = cond (ltb last i) (cond (leb i n) (risingInputs i n rest) false) false
+risingInputs last n (i ∷ rest) = ltb last i && (leb i n && risingInputs i n rest)
 
 -- each 0 or 1
 unfoldable pub binary : List ℕ → Bool
 binary [] = true
-binary (v ∷ rest) = cond (leb v 1) (binary rest) false
+binary (v ∷ rest) = leb v 1 && binary rest
 
 -- "one to three"
 unfoldable pub fewOf : ℕ → Bool
-fewOf k = cond (ltb 0 k) (leb k 3) false
+fewOf k = ltb 0 k && leb k 3
 
 -- "one to three rising inputs in 1 to n with values 0 or 1"
 unfoldable pub stuckRight : ℕ → List ℕ → List ℕ → Bool
-stuckRight n inputs values = cond (fewOf (length inputs)) (cond (eqb (length values) (length inputs)) (cond (binary values) (risingInputs 0 n inputs) false) false) false
+stuckRight n inputs values = fewOf (length inputs) && (eqb (length values) (length inputs) && (binary values && risingInputs 0 n inputs))
 
 unfoldable pub stuckAnswer : List ℤ → List ℕ → List ℕ → ℕ → Answer
 stuckAnswer coefficients inputs values room =
@@ -71,7 +71,7 @@ stuckAnswer coefficients inputs values room =
 
 -- "coefficients of n+k inputs, of which the last k (1 to 3, n at least 1) are the opened lines, and k values"
 unfoldable pub openedRight : ℕ → List ℕ → Bool
-openedRight inputs values = cond (fewOf (length values)) (cond (ltb (length values) inputs) (binary values) false) false
+openedRight inputs values = fewOf (length values) && (ltb (length values) inputs && binary values)
 
 -- the n of n + k inputs
 abbrev pub keptInputs : List ℤ → List ℕ → ℕ
@@ -94,7 +94,7 @@ unfoldable pub openedSpectrumOf : List ℤ → List ℕ → List ℤ
 openedSpectrumOf coefficients values = tab (2 ^ keptInputs coefficients values) (openedAt coefficients values)
 
 unfoldable pub undividedAt : List ℤ → List ℕ → ℕ → Bool
-undividedAt coefficients values label = cond (eqb (natAbs (openedSumAt coefficients values label) % 2 ^ length values) 0) false true
+undividedAt coefficients values label = not (eqb (natAbs (openedSumAt coefficients values label) % 2 ^ length values) 0)
 
 unfoldable pub firstUndivided : List ℤ → List ℕ → ℕ
 firstUndivided coefficients values = firstWhere (undividedAt coefficients values) (2 ^ keptInputs coefficients values)
@@ -102,7 +102,7 @@ firstUndivided coefficients values = firstWhere (undividedAt coefficients values
 -- "11 is given exactly when a sum does not divide."
 unfoldable pub undividedAnswer : List ℤ → List ℕ → Answer
 undividedAnswer coefficients values =
-    cond (ltb (firstUndivided coefficients values) (2 ^ keptInputs coefficients values)) (Refused 11 (firstUndivided coefficients values)) Done
+    refuseIf (ltb (firstUndivided coefficients values) (2 ^ keptInputs coefficients values)) 11 (firstUndivided coefficients values) Done
 
 unfoldable pub openedAnswer : List ℤ → List ℕ → ℕ → Answer
 openedAnswer coefficients values room =

@@ -8,7 +8,8 @@ ghost use lib.IntN.{_+ℤ_, natAbs};
 ghost use lib.ListN.{length};
 ghost use Rattle.integer.specs.Sum.{signed};
 ghost use Rattle.integer.specs.Tab.{Within};
-ghost use Rattle.screen.specs.Answers.{leaves, written, inputsOf};
+ghost use Rattle.walsh.specs.Results.{leaves, written};
+ghost use Rattle.screen.specs.Answers.{inputsOf};
 ghost use Rattle.faults.specs.Faults.{stuckOf, stuckSpectrumOf, risingInputs, binary, stuckRight, stuckAnswer, openedAnswer, openedSpectrumOf, undividedAnswer};
 ghost use Rattle.faults.specs.Steps.{keptOf, stuckOnce};
 

@@ -25,13 +25,15 @@ use borrow.Author.Count.{below-more}
 use borrow.Author.Tests.{lt-ltb, le-ltb}
 use Rattle.cover.specs.Cover.{faultRows, silent, silentAt, firstSilent, signatureOf}
 use Rattle.cover.specs.Order.{labelsBelow}
-use Rattle.cover.specs.Sets.{planOf, upTo, fourOf}
-use Rattle.cover.specs.Steps.{Below, clears, marked, masksOf, setOf, setAt}
+use Rattle.cover.specs.Sets.{planOf, fourOf}
+use Rattle.cover.specs.Steps.{clears, marked, masksOf, setOf, setAt}
 use Rattle.cover.specs.declared.LabelSet.{LabelSet}
 use Rattle.cover.proofs.LabelOrder.{labels-count, labels-below}
 use Rattle.cover.proofs.Marking.{no-masks, marked-more, length-masks, masks-below}
 use Rattle.cover.proofs.Signatures.{found-is, signature-found}
 use Rattle.integer.specs.Tab.{Within}
+use Rattle.integer.specs.Counting.{upTo}
+use Rattle.integer.specs.ListTests.{Below}
 use Rattle.integer.proofs.Bools.{clash}
 use Rattle.integer.proofs.Firsts.{first-le, first-hit, first-none}
 use Rattle.netlist.specs.Circuits.{Netlist, netlistOf, Sized, faultAt}

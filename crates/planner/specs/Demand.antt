@@ -7,8 +7,9 @@ use mathlib.Core.List.{List, [], _∷_, List·Memᴰ}
 use mathlib.Core.Logic.{_↔_, _⊎_}
 use mathlib.Core.Path.{_≡_}
 use lib.ListN.{length, take, getD}
+use Rattle.integer.specs.ListTests.{distinct}
 use Rattle.cover.specs.Order.{rising}
-use Rattle.cover.specs.Sets.{distinct, precedes}
+use Rattle.cover.specs.Sets.{precedes}
 use Rattle.netlist.specs.Circuits.{Netlist, faultAt}
 use Rattle.simulation.specs.Rows.{rowValue, rowsOf}
 use Rattle.statements.specs.Items.{sound}

@@ -1,4 +1,4 @@
-pub mod Counts
+pub mod AgreeingRows
 pub mod Exactness
 pub mod Fractions
 pub mod Totals

@@ -15,7 +15,7 @@ use lib.Pow.{pow-mono}
 use Rattle.integer.specs.Tab.{Within}
 use Rattle.reading.specs.Exact.{Exact}
 use Rattle.reading.specs.Readings.{countOf, quotient, meanOf, wholeSum}
-use Rattle.reading.proofs.Counts.{count-power}
+use Rattle.reading.proofs.AgreeingRows.{count-power}
 use Rattle.reading.proofs.Exactness.{quotient-exact, difference-exact}
 use Rattle.reading.proofs.Totals.{total-le}
 

@@ -17,9 +17,9 @@ use lib.Dec.{ltb, lit≤}
 use lib.ListN.{length, take, drop, getD, length-append}
 use lib.Seq.{take-append-seam}
 use borrow.Author.Tests.{lt-ltb, le-ltb, ltb-true}
+use Rattle.integer.specs.ListTests.{Below}
+use Rattle.integer.proofs.Entries.{at-mem}
 use Rattle.cover.specs.Cover.{signatureOf}
-use Rattle.cover.specs.Steps.{Below}
-use Rattle.cover.proofs.LabelOrder.{at-mem}
 use Rattle.cover.proofs.Signatures.{signature-found}
 use Rattle.netlist.specs.Circuits.{Netlist, netlistOf}
 use Rattle.netlist.specs.Parsing.{Parse, accepted, rejected, parseOf, meaning, onParse}

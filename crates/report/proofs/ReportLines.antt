@@ -20,13 +20,14 @@ use mir.Val.{toZ, ofZ, SFits}
 use mir.ValLaws.{toZ-ofZ}
 use borrow.Author.Count.{below-more}
 use borrow.Author.Tests.{le-ltb, ltb-true, ltb-false}
-use Rattle.cover.specs.Cover.{differ, covers, faultRows}
-use Rattle.cover.specs.Steps.{Below}
-use Rattle.cover.proofs.Signatures.{ne-differ, eq-differ}
+use Rattle.cover.specs.Cover.{covers, faultRows}
 use Rattle.integer.specs.First.{firstWhere}
 use Rattle.integer.specs.Tab.{nth, Within}
+use Rattle.integer.specs.Differ.{differ}
+use Rattle.integer.specs.ListTests.{Below}
 use Rattle.integer.proofs.Firsts.{first-ext, first-hit, first-none}
 use Rattle.integer.proofs.Machine.{reads-back}
+use Rattle.integer.proofs.Differing.{ne-differ, eq-differ}
 use Rattle.netlist.specs.Circuits.{Netlist, faultAt}
 use Rattle.netlist.specs.WellFormed.{WellFormed}
 use Rattle.simulation.specs.Rows.{rowsOf}
@@ -36,7 +37,7 @@ use Rattle.statements.specs.Lines.{faultWord}
 use Rattle.statements.specs.declared.Fault.{Fault}
 use Rattle.writing.specs.Writing.{placed, gather, lineOf}
 use Rattle.writing.proofs.Writings.{natural-length, integer-length, gather-ext, line-one, line-two, line-three}
-use Rattle.screen.specs.Answers.{leaves}
+use Rattle.walsh.specs.Results.{leaves}
 use Rattle.transform.specs.Spectrum.{coefficientOf, spectrumOf}
 use Rattle.screen.specs.declared.Answer.{Answer}
 use Rattle.screen.specs.declared.Answer.the-variants.{Done}

@@ -4,9 +4,9 @@ use mathlib.Core.Bool.{Bool}
 use mathlib.Core.List.{List, [], _∷_}
 use lib.IntN.{ℤ, pos}
 use lib.ListN.{length, getD}
-use Rattle.cover.specs.Cover.{differ}
 use Rattle.integer.specs.First.{firstWhere}
 use Rattle.integer.specs.Tab.{nth}
+use Rattle.integer.specs.Differ.{differ}
 use Rattle.writing.specs.Writing.{lineOf}
 use Rattle.report.specs.ReportCall.{labelWord}
 

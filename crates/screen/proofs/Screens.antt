@@ -7,14 +7,14 @@
 --   found-outside, none-outside                 what a loop that tests one number after the other has found
 --   any-turn, any-all                           what a loop that tests every number has found
 --   screened-within, within-screened            no number outside -B .. B means a list within B
+--   test-passed                                 where a test and those after it give Done, it does not hold
 --   Screened, screen-done, done-screen          what the answer Done of `screenOf` means
 --   Ready, ready                                and what a call knows by it
 --   screen-unsized, -wrong, -outside, -short    its refusals, in their order
---   refused-leaves                              a refusal leaves what was lent as it was
 --   screen-not-11, screen-due, first-passed     11 is none of them, what is due counts only for right arguments, tests behind it
 use mathlib.Core.Path.{_≡_, refl, sym, ap, ap₂, _∙_}
 use mathlib.Core.List.{List}
-use mathlib.Core.Bool.{Bool, true, false, cond, _||_}
+use mathlib.Core.Bool.{Bool, true, false, not, cond, _||_, or-true, or-assoc}
 use Prim.Native.Nat.{ℕ, zero, suc, _+_, _^_, _≤_, _<_}
 use native.Mathlib.Numerals.{add-one}
 use native.Mathlib.Nat.{lt-of-not-le, two-pow-succ, pow-le-pow-right, one-le-pow}
@@ -28,14 +28,14 @@ use lib.Signed.{ltZ}
 use mir.Syntax.{w32}
 use mir.Val.{SFits, toZ, ofZ}
 use mir.ValLaws.{toZ-ofZ}
-use borrow.Author.Tests.{ltb-false, lt-ltb, le-ltb, eqb-true, eqb-false, eq-eqb, ne-eqb}
+use borrow.Author.Tests.{not-false, ltb-false, lt-ltb, le-ltb, eqb-true, eqb-false, eq-eqb, ne-eqb}
 use Rattle.integer.specs.Tab.{nth, Within}
-use Rattle.integer.proofs.Bools.{clash}
+use Rattle.integer.proofs.Bools.{clash, neither}
 use Rattle.integer.proofs.Firsts.{first-hit, first-none, first-all}
 use Rattle.integer.proofs.Group.{natAbs-neg}
 use Rattle.screen.specs.declared.Answer.{Answer}
 use Rattle.screen.specs.declared.Answer.the-variants.{Done, Refused}
-use Rattle.screen.specs.Answers.{answerNumber, andThen, leaves, inputsTo, inputsOf, outside, outsideAt, firstOutside, screenOf}
+use Rattle.screen.specs.Answers.{answerNumber, andThen, refuseIf, inputsTo, inputsOf, outside, outsideAt, firstOutside, screenOf}
 use Rattle.screen.specs.Steps.{anyWhere, anyOutside}
 
 -- The number of inputs.
@@ -98,37 +98,21 @@ inputs-is k h l = is-to 11 k h l
 
 -- One number.
 
-inside-low : (low high z : ℤ) → outside low high z ≡ false → ltZ z low ≡ false
+inside-both : (low high z : ℤ) → outside low high z ≡ false → (ltZ z low ≡ false) × (ltZ high z ≡ false)
 unfolding outside
-inside-low low high z e = pick (ltZ z low) e
-  where
-    pick : (b : Bool) → cond b true (ltZ high z) ≡ false → b ≡ false
-    pick true e = e
-    pick false e = refl
-
-inside-high : (low high z : ℤ) → outside low high z ≡ false → ltZ high z ≡ false
-unfolding outside
-inside-high low high z e = pick (ltZ z low) e
-  where
-    pick : (b : Bool) → cond b true (ltZ high z) ≡ false → ltZ high z ≡ false
-    pick true e = clash e
-    pick false e = e
+inside-both low high z e = neither (ltZ z low) (ltZ high z) e
 
 pub outside-none : (low high z : ℤ) → ltZ z low ≡ false → ltZ high z ≡ false → outside low high z ≡ false
 unfolding outside
-outside-none low high z a b = ap (λ (t : Bool). cond t true (ltZ high z)) a ∙ b
+outside-none low high z a b = rw (a, b)
 
 pub outside-low : (low high z : ℤ) → ltZ z low ≡ true → outside low high z ≡ true
 unfolding outside
-outside-low low high z a = ap (λ (t : Bool). cond t true (ltZ high z)) a
+outside-low low high z a = rw a
 
 pub outside-high : (low high z : ℤ) → ltZ high z ≡ true → outside low high z ≡ true
 unfolding outside
-outside-high low high z b = pick (ltZ z low)
-  where
-    pick : (t : Bool) → cond t true (ltZ high z) ≡ true
-    pick true = refl
-    pick false = b
+outside-high low high z b = rw b (or-true (ltZ z low))
 
 size-high : (high : ℤ) (n : ℕ) → ltZ high (pos n) ≡ false → n ≤ natAbs high
 size-high (pos h) n e = ltb-false h n e
@@ -139,12 +123,12 @@ size-low (pos l) n e = clash e
 size-low (negsuc l) n e = omega (arith, ltb-false l n e)
 
 pub outside-sizes : (low high z : ℤ) → outside low high z ≡ false → natAbs z ≤ natAbs low + natAbs high
-outside-sizes low high (pos n) e = omega (arith, size-high high n (inside-high low high (pos n) e))
-outside-sizes low high (negsuc n) e = omega (arith, size-low low n (inside-low low high (negsuc n) e))
+outside-sizes low high (pos n) e = omega (arith, size-high high n (inside-both low high (pos n) e .1))
+outside-sizes low high (negsuc n) e = omega (arith, size-low low n (inside-both low high (negsuc n) e .0))
 
 pub outside-small : (B : ℕ) (z : ℤ) → outside (negℤ (pos B)) (pos B) z ≡ false → natAbs z ≤ B
-outside-small B (pos n) e = size-high (pos B) n (inside-high (negℤ (pos B)) (pos B) (pos n) e)
-outside-small B (negsuc n) e = omega (arith, natAbs-neg (pos B), size-low (negℤ (pos B)) n (inside-low (negℤ (pos B)) (pos B) (negsuc n) e))
+outside-small B (pos n) e = size-high (pos B) n (inside-both (negℤ (pos B)) (pos B) (pos n) e .1)
+outside-small B (negsuc n) e = omega (arith, natAbs-neg (pos B), size-low (negℤ (pos B)) n (inside-both (negℤ (pos B)) (pos B) (negsuc n) e .0))
 
 small-low : (B : ℕ) (z : ℤ) → natAbs z ≤ B → ltZ z (negℤ (pos B)) ≡ false
 small-low zero (pos n) h = le-ltb n 0 (omega arith)
@@ -174,29 +158,24 @@ module _ (low high : ℤ) (l : List ℤ) (i : ℕ) where
   unfolding firstOutside
   none-outside h k f = first-none (outsideAt low high l) (length l) (λ x b. f x (omega arith)) ∙ omega arith
 
--- in the order of the machine's tests
-either : (a b c : Bool) → ((a || b) || c) ≡ cond a true (cond b true c)
-either true b c = refl
-either false true c = refl
-either false false c = refl
-
 pub any-turn : (low high : ℤ) (l : List ℤ) (i : ℕ) {z : ℤ} {any : Bool} → z ≡ nth l i → any ≡ anyWhere (outsideAt low high l) i
     → ((any || ltZ z low) || ltZ high z) ≡ anyWhere (outsideAt low high l) (i + 1)
 unfolding anyWhere outsideAt outside
 any-turn low high l i {z} {any} ez e =
-    either any (ltZ z low) (ltZ high z)
-    ∙ ap₂ (λ (t : Bool) (y : ℤ). cond t true (outside low high y)) e ez
+    or-assoc any (ltZ z low) (ltZ high z)
+    ∙ ap₂ (λ (t : Bool) (y : ℤ). t || outside low high y) e ez
     ∙ ap (anyWhere (outsideAt low high l)) (sym (add-one i))
 
 none-where : (p : ℕ → Bool) (n : ℕ) → anyWhere p n ≡ false → (x : ℕ) → x < n → p x ≡ false
 unfolding anyWhere
 none-where p zero e x h = absurd (omega arith)
-none-where p (suc n) e x h = pick (none-where p n) (anyWhere p n) refl e (decLe n x)
+none-where p (suc n) e x h =
+    let f = neither (anyWhere p n) (p n) e in
+    pick (none-where p n (f .0)) (f .1) (decLe n x)
   where
-    pick : (anyWhere p n ≡ false → (y : ℕ) → y < n → p y ≡ false) → (b : Bool) → anyWhere p n ≡ b → cond b true (p n) ≡ false → Dec (n ≤ x) → p x ≡ false
-    pick ih true eb e d = clash e
-    pick ih false eb e (yes g) = let k : x ≡ n = omega arith in ap p k ∙ e
-    pick ih false eb e (no g) = ih eb x (lt-of-not-le g)
+    pick : ((y : ℕ) → y < n → p y ≡ false) → p n ≡ false → Dec (n ≤ x) → p x ≡ false
+    pick ih e (yes g) = let k : x ≡ n = omega arith in ap p k ∙ e
+    pick ih e (no g) = ih x (lt-of-not-le g)
 
 pub any-all : (low high : ℤ) (l : List ℤ) → anyOutside low high l ≡ false → firstOutside low high l ≡ length l
 unfolding anyOutside firstOutside
@@ -216,8 +195,9 @@ pub record Screened (low high : ℤ) (test : Bool) (l : List ℤ) (room due : �
   pub inside : length l ≤ firstOutside low high l
   pub fits : due ≤ room
 
-never : {X : Type 0} (n p : ℕ) → Refused n p ≡ Done → X
-never n p e = let z : _≡_ {A = ℕ} 0 1 = cc in absurd (omega arith)
+pub test-passed : (test : Bool) (number place : ℕ) (next : Answer) → refuseIf test number place next ≡ Done → (test ≡ false) × (next ≡ Done)
+test-passed true number place next e = let z : _≡_ {A = ℕ} 0 1 = cc in absurd (omega arith)
+test-passed false number place next e = (refl, e)
 
 pub above-zero : (n : ℕ) → (n ≡ 0 → ⊥) → 0 < n
 above-zero zero f = absurd (f refl)
@@ -225,15 +205,12 @@ above-zero (suc n) f = omega arith
 
 pub screen-done : (low high : ℤ) (test : Bool) (l : List ℤ) (room due : ℕ) → screenOf low high test l room due ≡ Done → Screened low high test l room due
 unfolding screenOf
-screen-done low high test l room due e = go (eqb (inputsOf (length l)) 0) refl test refl (ltb (firstOutside low high l) (length l)) refl (ltb room due) refl e
-  where
-    go : (a : Bool) → eqb (inputsOf (length l)) 0 ≡ a → (t : Bool) → test ≡ t → (b : Bool) → ltb (firstOutside low high l) (length l) ≡ b → (c : Bool) → ltb room due ≡ c
-        → cond a (Refused 9 0) (cond t (cond b (Refused 10 (firstOutside low high l)) (cond c (Refused 8 0) Done)) (Refused 12 0)) ≡ Done → Screened low high test l room due
-    go false ea true et false eb false ec e = record { sized = above-zero _ (eqb-false _ _ ea); right = et; inside = ltb-false _ _ eb; fits = ltb-false _ _ ec }
-    go false ea true et false eb true ec e = never 8 0 e
-    go false ea true et true eb c ec e = never 10 (firstOutside low high l) e
-    go false ea false et b eb c ec e = never 12 0 e
-    go true ea t et b eb c ec e = never 9 0 e
+screen-done low high test l room due e =
+    let a = test-passed (eqb (inputsOf (length l)) 0) 9 0 _ e in
+    let b = test-passed (not test) 12 0 _ (a .1) in
+    let c = test-passed (ltb (firstOutside low high l) (length l)) 10 (firstOutside low high l) _ (b .1) in
+    let d = test-passed (ltb room due) 8 0 _ (c .1) in
+    record { sized = above-zero _ (eqb-false _ _ (a .0)); right = not-false test (b .0); inside = ltb-false _ _ (c .0); fits = ltb-false _ _ (d .0) }
 
 -- where tests after others give Done, the first did
 pub first-passed : (a b : Answer) → andThen a b ≡ Done → a ≡ Done
@@ -245,7 +222,7 @@ pub screen-not-11 : (low high : ℤ) (test : Bool) (l : List ℤ) (room due : �
 unfolding screenOf
 screen-not-11 low high test l room due = go (eqb (inputsOf (length l)) 0) test (ltb (firstOutside low high l) (length l)) (ltb room due)
   where
-    go : (a t b c : Bool) → answerNumber (cond a (Refused 9 0) (cond t (cond b (Refused 10 (firstOutside low high l)) (cond c (Refused 8 0) Done)) (Refused 12 0))) ≡ 11 → ⊥
+    go : (a t b c : Bool) → answerNumber (refuseIf a 9 0 (refuseIf (not t) 12 0 (refuseIf b 10 (firstOutside low high l) (refuseIf c 8 0 Done)))) ≡ 11 → ⊥
     go true t b c e = omega arith
     go false false b c e = omega arith
     go false true true c e = omega arith
@@ -308,7 +285,3 @@ module _ (low high : ℤ) (l : List ℤ) (room due : ℕ) where
     pub screen-short : (test : Bool) → test ≡ true → length l ≤ firstOutside low high l → room < due → screenOf low high test l room due ≡ Refused 8 0
     unfolding screenOf
     screen-short test e h k = rw (size, e, le-ltb (firstOutside low high l) (length l) h, lt-ltb room due k)
-
--- a refusal leaves what was lent
-pub refused-leaves : (number place : ℕ) (new out : List ℤ) → leaves (Refused number place) new out ≡ out
-refused-leaves number place new out = refl

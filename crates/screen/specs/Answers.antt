@@ -1,12 +1,11 @@
--- What a call on a list answers, and what it leaves in the lent result (document 01, "What is returned"):
+-- What a call on a list answers, and the tests that every such call begins with (document 01, "What is returned"):
 --   "Calls on lists test 9, 12, 10, 8, 11."
---   "A refusal writes nothing." "Both write the list's length of 32-bit numbers into the lent result and no more."
 use Prim.Native.Nat.{ℕ, zero, suc, _^_}
-use mathlib.Core.List.{List, _++_}
-use mathlib.Core.Bool.{Bool, true, cond}
+use mathlib.Core.List.{List}
+use mathlib.Core.Bool.{Bool, not, cond, _||_}
 use lib.IntN.{ℤ, pos, negℤ}
 use lib.Dec.{eqb, ltb}
-use lib.ListN.{length, drop}
+use lib.ListN.{length}
 use lib.Signed.{ltZ}
 use Rattle.integer.specs.First.{firstWhere}
 use Rattle.integer.specs.Tab.{nth}
@@ -27,13 +26,9 @@ abbrev pub andThen : Answer → Answer → Answer
 andThen Done next = next
 andThen (Refused number place) next = Refused number place
 
--- the new numbers, and behind them what was lent
-abbrev pub written : List ℤ → List ℤ → List ℤ
-written new out = new ++ drop (length new) out
-
-abbrev pub leaves : Answer → List ℤ → List ℤ → List ℤ
-leaves Done new out = written new out
-leaves (Refused number place) new out = out
+-- one test: the refusal where it holds, else the next tests
+abbrev pub refuseIf : Bool → ℕ → ℕ → Answer → Answer
+refuseIf test number place next = cond test (Refused number place) next
 
 -- -n
 abbrev pub minus : ℕ → ℤ
@@ -50,7 +45,7 @@ inputsOf n = inputsTo 11 n
 
 -- not from low to high
 unfoldable pub outside : ℤ → ℤ → ℤ → Bool
-outside low high z = cond (ltZ z low) true (ltZ high z)
+outside low high z = ltZ z low || ltZ high z
 
 unfoldable pub outsideAt : ℤ → ℤ → List ℤ → ℕ → Bool
 outsideAt low high l x = outside low high (nth l x)
@@ -61,8 +56,7 @@ firstOutside low high l = firstWhere (outsideAt low high l) (length l)
 -- 9, 12 unless the arguments are right, 10 at the first number that is not from low to high, 8 unless there is room for what is due
 unfoldable pub screenOf : ℤ → ℤ → Bool → List ℤ → ℕ → ℕ → Answer
 screenOf low high right l room due =
-    cond (eqb (inputsOf (length l)) 0) (Refused 9 0)
-    (cond right
-    (cond (ltb (firstOutside low high l) (length l)) (Refused 10 (firstOutside low high l))
-    (cond (ltb room due) (Refused 8 0) Done))
-    (Refused 12 0))
+    refuseIf (eqb (inputsOf (length l)) 0) 9 0
+    (refuseIf (not right) 12 0
+    (refuseIf (ltb (firstOutside low high l) (length l)) 10 (firstOutside low high l)
+    (refuseIf (ltb room due) 8 0 Done)))

@@ -2,7 +2,7 @@
 --   fault-told    a line of one, two or three pairs that rise, each a line of the circuit
 --   Pairs         the numbers behind the first pair: those of none, one or two more
 use mathlib.Core.Path.{_≡_, refl, sym, ap, ap₂, _∙_}
-use mathlib.Core.Bool.{Bool, true, false, cond, _||_}
+use mathlib.Core.Bool.{Bool, true, false, cond, _||_, or-true}
 use mathlib.Core.List.{List, [], _∷_, _++_, map}
 use mathlib.Core.Logic.{_⊎_, inl, inr}
 use Prim.Native.Nat.{ℕ, suc, _+_, _-_, _<_, _≤_}
@@ -13,7 +13,6 @@ use lib.ListN.{length, getD}
 use borrow.Author.Tests.{lt-ltb, le-leb, ne-eqb}
 use Rattle.text.specs.Text.{indexOf, fieldCount}
 use Rattle.writing.specs.Writing.{numbersOf, lineOf}
-use Rattle.text.proofs.Decimals.{or-true}
 use Rattle.writing.proofs.LineFields.{Small, line-short}
 use Rattle.statements.specs.Items.{free}
 use Rattle.fields.specs.Fields.{valueAt, isLine, unless}

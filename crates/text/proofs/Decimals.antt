@@ -5,7 +5,7 @@
 --   digit-low, digit-high, digit-step, digit-end             what one turn of the loop over the digits shows
 --   ten-le       powers of ten grow
 use mathlib.Core.Path.{_≡_, refl}
-use mathlib.Core.Bool.{Bool, true, false, not, cond, _&&_, _||_}
+use mathlib.Core.Bool.{Bool, true, false, not, cond, _&&_, _||_, and-false, or-true}
 use mathlib.Core.List.{List, [], _∷_}
 use mathlib.Core.Logic.{_⊎_, inl, inr}
 use Prim.Native.Nat.{ℕ, _+_, _-_, _*_, _^_, _<_, _≤_}
@@ -19,14 +19,6 @@ use Rattle.text.specs.declared.Number.{Number}
 use Rattle.text.specs.declared.Number.the-variants.{Value, Bad}
 use Rattle.text.specs.Text.{digits, decimalFrom, wellFormed, numberOf}
 use Rattle.text.proofs.Parts.{step}
-
-pub and-false : (a : Bool) → (a && false) ≡ false
-and-false true = refl
-and-false false = refl
-
-pub or-true : (a : Bool) → (a || true) ≡ true
-or-true true = refl
-or-true false = refl
 
 pub ten-le : {i j : ℕ} → i ≤ j → 10 ^ i ≤ 10 ^ j
 ten-le h = pow-le-pow-right (lit< tt) h

@@ -3,13 +3,14 @@
 --   same-length              lists of different lengths differ
 --   same-step, same-differ, same-end    what one turn of a loop shows
 use mathlib.Core.Path.{_≡_, refl, ap, ap₂}
-use mathlib.Core.Bool.{Bool, true, false, cond, false≢true}
+use mathlib.Core.Bool.{true, false, false≢true, and-false}
 use mathlib.Core.List.{List, [], _∷_}
 use Prim.Native.Nat.{ℕ, suc, _+_, _<_, _≤_}
 use native.Mathlib.Omega.{arith}
 use lib.ListN.{length, drop, getD, drop-of-length-le}
 use lib.Dec.{eqb}
 use borrow.Author.Tests.{eq-eqb, ne-eqb, eqb-true}
+use Rattle.integer.proofs.Bools.{both}
 use Rattle.text.specs.Text.{sameBytes}
 use Rattle.text.proofs.Parts.{step}
 
@@ -18,11 +19,9 @@ unfolding sameBytes
 same-equal [] [] e = refl
 same-equal [] (y ∷ b) e = absurd (false≢true e)
 same-equal (x ∷ a) [] e = absurd (false≢true e)
-same-equal (x ∷ a) (y ∷ b) e = by (eqb x y) (eqb-true x y) (same-equal a b) e
-  where
-    by : (t : Bool) → (t ≡ true → x ≡ y) → (sameBytes a b ≡ true → a ≡ b) → cond t (sameBytes a b) false ≡ true → x ∷ a ≡ y ∷ b
-    by true h ih e = ap₂ (λ (z : ℕ) (l : List ℕ). z ∷ l) (h refl) (ih e)
-    by false h ih e = absurd (false≢true e)
+same-equal (x ∷ a) (y ∷ b) e =
+    let p = both (eqb x y) (sameBytes a b) e in
+    ap₂ (λ (z : ℕ) (l : List ℕ). z ∷ l) (eqb-true x y (p .0)) (same-equal a b (p .1))
 
 pub same-self : (a : List ℕ) → sameBytes a a ≡ true
 unfolding sameBytes
@@ -34,11 +33,7 @@ unfolding sameBytes
 same-length [] [] n = absurd (n refl)
 same-length [] (y ∷ b) n = refl
 same-length (x ∷ a) [] n = refl
-same-length (x ∷ a) (y ∷ b) n = by (eqb x y) (same-length a b (λ e. n (ap suc e)))
-  where
-    by : (t : Bool) → sameBytes a b ≡ false → cond t (sameBytes a b) false ≡ false
-    by true e = e
-    by false e = refl
+same-length (x ∷ a) (y ∷ b) n = rw (same-length a b (λ e. n (ap suc e)), and-false)
 
 -- two lists of one length that go on at i
 module _ (a b : List ℕ) (i : ℕ) (h : length a ≡ length b) where

@@ -66,7 +66,7 @@ unfoldable pub sameBytes : List ℕ → List ℕ → Bool
 sameBytes [] [] = true
 sameBytes [] (y ∷ ys) = false
 sameBytes (x ∷ xs) [] = false
-sameBytes (x ∷ xs) (y ∷ ys) = cond (eqb x y) (sameBytes xs ys) false
+sameBytes (x ∷ xs) (y ∷ ys) = eqb x y && sameBytes xs ys
 
 unfoldable pub digits : List ℕ → Bool
 digits [] = true

@@ -8,7 +8,7 @@ use lib.IntN.{ℤ}
 use lib.ListN.{length, drop, drop-of-length-le}
 use Rattle.integer.specs.Tab.{tab, nth}
 use Rattle.integer.proofs.Tabs.{tab-nth}
-use Rattle.screen.specs.Answers.{written}
+use Rattle.walsh.specs.Results.{written}
 
 pub copied : (l d : List ℤ) (i : ℕ) → i ≡ length l → tab i (nth l) ++ drop i d ≡ written l d
 copied l d i e = ap (λ (k : ℕ). tab k (nth l) ++ drop k d) e ∙ ap (λ (m : List ℤ). m ++ drop (length l) d) (tab-nth l)

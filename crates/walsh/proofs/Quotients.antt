@@ -8,7 +8,7 @@
 --   within-quotients                               their size, where every sum fits
 use mathlib.Core.Path.{_≡_, refl, sym, ap, ap₂, _∙_, subst⁻¹}
 use mathlib.Core.List.{List}
-use mathlib.Core.Bool.{Bool, true, false, cond}
+use mathlib.Core.Bool.{true, false, not}
 use Prim.Native.Nat.{ℕ, zero, suc, _+_, _/_, _%_, _^_, _≤_, _<_, zero-le}
 use native.Mathlib.Nat.{lt-of-le-of-lt, div-le-self}
 use native.Mathlib.Omega.{arith}
@@ -19,16 +19,16 @@ use lib.Signed.{mag, quotZ, remZ, mag-rem}
 use mir.Syntax.{w64}
 use mir.Val.{SFits, toZ, ofZ}
 use mir.ValLaws.{toZ-ofZ, toZ-pos}
-use borrow.Author.Tests.{ltb-false, lt-ltb, le-ltb, eqb-true, eq-eqb, ne-eqb}
+use borrow.Author.Tests.{not-false, ltb-false, lt-ltb, le-ltb, eqb-true, eq-eqb, ne-eqb}
 use Rattle.integer.specs.Tab.{nth, Within}
-use Rattle.integer.proofs.Bools.{clash}
+use Rattle.integer.proofs.Bools.{neither}
 use Rattle.integer.proofs.Firsts.{first-hit, first-none, first-all}
 use Rattle.integer.proofs.Group.{natAbs-neg}
 use Rattle.integer.proofs.Tabs.{length-tab, getD-tab}
 use Rattle.screen.specs.declared.Answer.the-variants.{Done, Refused}
 use Rattle.screen.specs.Answers.{outside}
 use Rattle.walsh.specs.Lists.{quotientOf, unfit, unfitAt, firstUnfit, dividedAnswer, quotientAt, quotientsOf}
-use Rattle.screen.proofs.Screens.{outside-sizes}
+use Rattle.screen.proofs.Screens.{outside-sizes, test-passed}
 
 -- One sum, as the machine divides it.
 
@@ -93,14 +93,11 @@ module _ (d : ℕ) (low high z : ℤ) where
 
   pub unfit-divides : unfit d low high z ≡ false → natAbs z % d ≡ 0
   unfolding unfit
-  unfit-divides e = pick (eqb (natAbs z % d) 0) refl e
-    where
-      pick : (b : Bool) → eqb (natAbs z % d) 0 ≡ b → cond b (outside low high (quotientOf d z)) true ≡ false → natAbs z % d ≡ 0
-      pick true k e = eqb-true (natAbs z % d) 0 k
-      pick false k e = clash e
+  unfit-divides e = eqb-true (natAbs z % d) 0 (not-false _ (neither (not (eqb (natAbs z % d) 0)) (outside low high (quotientOf d z)) e .0))
 
   pub unfit-inside : unfit d low high z ≡ false → outside low high (quotientOf d z) ≡ false
-  unfit-inside e = sym (unfit-whole (unfit-divides e)) ∙ e
+  unfolding unfit
+  unfit-inside e = neither (not (eqb (natAbs z % d) 0)) (outside low high (quotientOf d z)) e .1
 
 -- A list of sums.
 
@@ -131,11 +128,7 @@ module _ (d : ℕ) (low high : ℤ) (sums : List ℤ) where
 
   pub divided-done : dividedAnswer d low high sums ≡ Done → (x : ℕ) → x < length sums → unfitAt d low high sums x ≡ false
   unfolding dividedAnswer
-  divided-done e = fits-all (pick (ltb (firstUnfit d low high sums) (length sums)) refl e)
-    where
-      pick : (b : Bool) → ltb (firstUnfit d low high sums) (length sums) ≡ b → cond b (Refused 11 (firstUnfit d low high sums)) Done ≡ Done → length sums ≤ firstUnfit d low high sums
-      pick true k e = let z : _≡_ {A = ℕ} 0 1 = cc in absurd (omega arith)
-      pick false k e = ltb-false _ _ k
+  divided-done e = fits-all (ltb-false _ _ (test-passed (ltb (firstUnfit d low high sums) (length sums)) 11 (firstUnfit d low high sums) Done e .0))
 
   pub done-divided : ((x : ℕ) → x < length sums → unfitAt d low high sums x ≡ false) → dividedAnswer d low high sums ≡ Done
   done-divided f = let e = none-unfit (length sums) (omega arith) (omega arith) f in fit-done (omega arith)

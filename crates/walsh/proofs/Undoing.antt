@@ -6,7 +6,7 @@
 use mathlib.Core.Path.{_≡_, refl, sym, ap, ap₂, _∙_, subst}
 use mathlib.Core.List.{List}
 use mathlib.Core.Logic.{_↔_, _⊎_, inl, inr, ⊎-elim}
-use mathlib.Core.Bool.{Bool, true, false, cond}
+use mathlib.Core.Bool.{Bool, true, false}
 use Prim.Native.Nat.{ℕ, zero, suc, _*_, _^_, _≤_, _<_}
 use native.Mathlib.Omega.{arith}
 use lib.Dec.{ltb}
@@ -19,10 +19,10 @@ use Rattle.integer.proofs.Division.{quot-exact, quot-multiple, multiple-mod}
 use Rattle.integer.proofs.Group.{mul-cancel}
 use Rattle.integer.proofs.Tabs.{length-tab, getD-tab, tab-ext, tab-nth}
 use Rattle.transform.specs.Spectrum.{signedSum, spectrumOf}
-use Rattle.screen.specs.Answers.{answerNumber, andThen, minus, outside, inputsOf, screenOf}
+use Rattle.screen.specs.Answers.{answerNumber, andThen, refuseIf, minus, outside, inputsOf, screenOf}
 use Rattle.walsh.specs.Lists.{spectrumAnswer, unfit, unfitAt, firstUnfit, dividedAnswer, quotientOf, quotientAt, quotientsOf, inverseRows, rowsAnswer}
 use Rattle.screen.specs.declared.Answer.{Answer}
-use Rattle.screen.specs.declared.Answer.the-variants.{Done, Refused}
+use Rattle.screen.specs.declared.Answer.the-variants.{Done}
 use Rattle.transform.proofs.Halving.{sum-equal, signed-sum-scale, twice}
 use Rattle.walsh.proofs.Quotients.{unfit-whole, unfit-divides, unfit-inside, divided-done, done-divided}
 use Rattle.screen.proofs.Screens.{Screened, first-passed, screen-done, done-screen, screened-within, within-screened, inputs-power, inputs-most, outside-small, small-outside}
@@ -139,8 +139,8 @@ module _ (c : List ℤ) (room : ℕ) (passed : screened c room ≡ Done) where
   unfolding dividedAnswer
   done-or-11 = go (ltb (firstUnfit (length c) (minus 1000) (pos 1000) (spectrumOf c)) (length (spectrumOf c)))
     where
-      go : (b : Bool) → (cond b (Refused 11 (firstUnfit (length c) (minus 1000) (pos 1000) (spectrumOf c))) Done ≡ Done)
-          ⊎ (answerNumber (cond b (Refused 11 (firstUnfit (length c) (minus 1000) (pos 1000) (spectrumOf c))) Done) ≡ 11)
+      go : (b : Bool) → (refuseIf b 11 (firstUnfit (length c) (minus 1000) (pos 1000) (spectrumOf c)) Done ≡ Done)
+          ⊎ (answerNumber (refuseIf b 11 (firstUnfit (length c) (minus 1000) (pos 1000) (spectrumOf c)) Done) ≡ 11)
       go true = inr refl
       go false = inl refl
 

@@ -1,2 +1,3 @@
 pub mod Coefficients
 pub mod Lists
+pub mod Results

@@ -3,17 +3,17 @@
 --   signed sum divided by the length." 11: "a sum that does not divide, or gives a row out of range; the first".
 use Prim.Native.Nat.{ℕ, _%_}
 use mathlib.Core.List.{List}
-use mathlib.Core.Bool.{Bool, true, cond}
+use mathlib.Core.Bool.{Bool, true, not, _||_}
 use lib.IntN.{ℤ, pos, natAbs}
 use lib.Dec.{eqb, ltb}
 use lib.ListN.{length}
 use lib.Signed.{quotZ}
 use Rattle.integer.specs.First.{firstWhere}
 use Rattle.integer.specs.Tab.{tab, nth}
-use Rattle.screen.specs.Answers.{andThen, minus, outside, screenOf}
+use Rattle.screen.specs.Answers.{andThen, refuseIf, minus, outside, screenOf}
 use Rattle.transform.specs.Spectrum.{spectrumOf}
 use Rattle.screen.specs.declared.Answer.{Answer}
-use Rattle.screen.specs.declared.Answer.the-variants.{Done, Refused}
+use Rattle.screen.specs.declared.Answer.the-variants.{Done}
 
 unfoldable pub spectrumAnswer : List ℤ → ℕ → Answer
 spectrumAnswer rows room = screenOf (minus 1000) (pos 1000) true rows room (length rows)
@@ -24,7 +24,7 @@ quotientOf d sum = quotZ sum (pos d)
 
 -- the sum does not divide by d, or its quotient is not from low to high
 unfoldable pub unfit : ℕ → ℤ → ℤ → ℤ → Bool
-unfit d low high sum = cond (eqb (natAbs sum % d) 0) (outside low high (quotientOf d sum)) true
+unfit d low high sum = not (eqb (natAbs sum % d) 0) || outside low high (quotientOf d sum)
 
 unfoldable pub unfitAt : ℕ → ℤ → ℤ → List ℤ → ℕ → Bool
 unfitAt d low high sums x = unfit d low high (nth sums x)
@@ -34,7 +34,7 @@ firstUnfit d low high sums = firstWhere (unfitAt d low high sums) (length sums)
 
 -- 11 at the first unfit sum
 unfoldable pub dividedAnswer : ℕ → ℤ → ℤ → List ℤ → Answer
-dividedAnswer d low high sums = cond (ltb (firstUnfit d low high sums) (length sums)) (Refused 11 (firstUnfit d low high sums)) Done
+dividedAnswer d low high sums = refuseIf (ltb (firstUnfit d low high sums) (length sums)) 11 (firstUnfit d low high sums) Done
 
 unfoldable pub quotientAt : ℕ → List ℤ → ℕ → ℤ
 quotientAt d sums x = quotientOf d (nth sums x)

@@ -6,7 +6,8 @@ ghost use Prim.Native.Nat.{_^_, _≤_};
 ghost use lib.IntN.{pos};
 ghost use lib.ListN.{length};
 ghost use Rattle.integer.specs.Tab.{Within};
-ghost use Rattle.screen.specs.Answers.{leaves, written, minus};
+ghost use Rattle.walsh.specs.Results.{leaves, written};
+ghost use Rattle.screen.specs.Answers.{minus};
 ghost use Rattle.walsh.specs.Lists.{spectrumAnswer, rowsAnswer, inverseRows, dividedAnswer};
 ghost use Rattle.transform.specs.Spectrum.{spectrumOf};
 

@@ -5,7 +5,7 @@ ghost use Prim.Native.Nat.{_+_, _≤_};
 ghost use lib.IntN.{natAbs};
 ghost use lib.ListN.{length};
 ghost use Rattle.integer.specs.Tab.{Within};
-ghost use Rattle.screen.specs.Answers.{leaves, written};
+ghost use Rattle.walsh.specs.Results.{leaves, written};
 ghost use Rattle.walsh.specs.Lists.{firstUnfit, quotientsOf, dividedAnswer};
 
 // Copies `list` to `work`.

@@ -26,7 +26,7 @@ pub fn put_decimal(out: &mut [u8], at: usize, n: usize) -> usize
     ensures { λ r. ⌜ r ≡ at + length (decimalOf n) ⌝ }
     ensures { λ _. ⌜ now (out .exit) ≡ placed at (decimalOf n) (now (out .entry)) ⌝ }
 {
-    let last = (48 + n % 10) as u8;
+    let last = b'0' + (n % 10) as u8;
     if n < 10 {
         out[at] = last;
         return at + 1;

@@ -390,7 +390,7 @@ fn check_plans(planned: &[u8], worst: &[u8]) {
     let due = report::report(planned, REPORT_ROOM, WORKING_NUMBERS).expect("a report");
     let mut out = vec![0; REPORT_ROOM];
     let found = library::report(planned, &mut out, working);
-    assert_eq!((found.number, found.length), (0, due.len()));
+    assert_eq!((found.number, found.bytes), (0, due.len()));
     assert_eq!(out[..due.len()], due, "the library's report differs");
     let fast_report = fast::report(planned, REPORT_ROOM, WORKING_NUMBERS);
     assert_eq!(fast_report, Ok(due));

@@ -9,7 +9,7 @@ use lib.ListN.{length}
 use Rattle.integer.proofs.Tabs.{length-mapped}
 use Rattle.netlist.specs.Circuits.{netlistOf}
 use Rattle.simulation.specs.Rows.{rowsOf}
-use Rattle.screen.specs.Answers.{leaves}
+use Rattle.walsh.specs.Results.{leaves}
 use Rattle.transform.specs.Spectrum.{spectrumOf}
 use Rattle.circuit.specs.CircuitCall.{faultSpectrum}
 use Rattle.netlist.proofs.Acceptance.{accepted-right}

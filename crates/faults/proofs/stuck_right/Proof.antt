@@ -1,7 +1,7 @@
 -- Each return is one clause of `stuckRight`, by the tests on the way.
 use borrow.Author.Needs.{needs}
 use mathlib.Core.Path.{_≡_, sym, ap, _∙_}
-use mathlib.Core.Bool.{Bool, false, cond}
+use mathlib.Core.Bool.{Bool, _&&_}
 use lib.ListN.{length}
 use borrow.Author.Tests.{not-true, not-false}
 use Rattle.faults.specs.Faults.{stuckRight, binary, risingInputs}
@@ -29,7 +29,7 @@ is-binary-requires c κs = search needs
 
 -- after the tests of the lengths
 tested : (c : tie.Else3) → let a = c .before .before .before .before .before .args in
-    stuckRight (a .n) (a .inputs .now) (a .values .now) ≡ cond (binary (a .values .now)) (risingInputs 0 (a .n) (a .inputs .now)) false
+    stuckRight (a .n) (a .inputs .now) (a .values .now) ≡ (binary (a .values .now) && risingInputs 0 (a .n) (a .inputs .now))
 tested c =
     let a = c .before .before .before .before .before .args in
     stuck-binary (a .n) (a .inputs .now) (a .values .now) (few-is (length (a .inputs .now)) (c .before .before .if1 .left) (c .before .if2 .left)) (c .if3 .left)
@@ -38,7 +38,7 @@ returns-4 : tie.Need-returns-4
 returns-4 c =
     let a = c .before .before .before .before .before .before .before .args in
     let t = c .before .is-binary .ensures in
-    sym (tested (c .before .before) ∙ ap (λ (b : Bool). cond b (risingInputs 0 (a .n) (a .inputs .now)) false) (sym t ∙ not-true (c .before .is-binary .result) (c .if4 .taken)))
+    sym (tested (c .before .before) ∙ ap (λ (b : Bool). b && risingInputs 0 (a .n) (a .inputs .now)) (sym t ∙ not-true (c .before .is-binary .result) (c .if4 .taken)))
 
 rises-requires : tie.Need-rises-requires
 rises-requires c κs = search needs
@@ -47,7 +47,7 @@ returns-5 : tie.Need-returns-5
 returns-5 c =
     let a = c .before .before .before .before .before .before .before .before .args in
     let t = c .before .before .is-binary .ensures in
-    c .rises .ensures ∙ sym (tested (c .before .before .before) ∙ ap (λ (b : Bool). cond b (risingInputs 0 (a .n) (a .inputs .now)) false) (sym t ∙ not-false (c .before .before .is-binary .result) (c .before .if4 .left)))
+    c .rises .ensures ∙ sym (tested (c .before .before .before) ∙ ap (λ (b : Bool). b && risingInputs 0 (a .n) (a .inputs .now)) (sym t ∙ not-false (c .before .before .is-binary .result) (c .before .if4 .left)))
 
 pub stuck-right-spec : {M : Type 1} → statement M
 stuck-right-spec =

@@ -5,7 +5,7 @@ use mathlib.Core.Path.{_≡_, sym}
 use Prim.Native.Nat.{_<_, _≤_, _^_}
 use lib.ListN.{length, take}
 use lib.Seq.{length-take-le}
-use Rattle.cover.specs.Steps.{Below}
+use Rattle.integer.specs.ListTests.{Below}
 use Rattle.netlist.specs.Circuits.{Netlist, netlistOf}
 use Rattle.planner.specs.PlanCall.{soundRows, faultedRows, verdictOf}
 use Rattle.report.specs.ReportCall.{refusedLine, planLines, verdictLines}

@@ -21,17 +21,17 @@ abbrev put-decimal-below : ℕ → In 1 put-decimal-kinds.ps
 put-decimal-below t =
     and 1 put-decimal-kinds.ps (falls 1 put-decimal-kinds.ps _<_ μ-put-decimal t) put-decimal.Pre
 
-put-decimal-add-last : (t : ℕ) → put-decimal-lts.Need-add-last (
-  put-decimal-below t,
-  put-decimal.Post,
-) (put-decimal-at t) put-decimal.Post
-put-decimal-add-last t c = search needs
-
 put-decimal-cast-last : (t : ℕ) → put-decimal-lts.Need-cast-last (
   put-decimal-below t,
   put-decimal.Post,
 ) (put-decimal-at t) put-decimal.Post
 put-decimal-cast-last t c = search needs
+
+put-decimal-add-last : (t : ℕ) → put-decimal-lts.Need-add-last (
+  put-decimal-below t,
+  put-decimal.Post,
+) (put-decimal-at t) put-decimal.Post
+put-decimal-add-last t c = search needs
 
 put-decimal-slice-write-out : (t : ℕ) → put-decimal-lts.Need-slice-write-out (
   put-decimal-below t,
@@ -115,8 +115,8 @@ pub +put-decimal-spec : {M : Type 1} → statement M
 )
     (put-decimal-at t)
     put-decimal.Post
-    (put-decimal-add-last t)
     (put-decimal-cast-last t)
+    (put-decimal-add-last t)
     (put-decimal-slice-write-out t)
     (put-decimal-add-result t)
     (put-decimal-same-length t)

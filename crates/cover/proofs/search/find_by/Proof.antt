@@ -4,10 +4,11 @@ use Prim.Native.Nat.{ℕ, _+_, _-_, _^_, _≤_}
 use native.Mathlib.Omega.{arith}
 use lib.ListN.{length}
 use borrow.Author.Needs.{needs}
-use Rattle.cover.specs.Sets.{planOf, planFrom, upTo}
+use Rattle.integer.specs.Counting.{upTo}
+use Rattle.cover.specs.Sets.{planOf, planFrom}
 use Rattle.cover.specs.Steps.{clears, setAt}
 use Rattle.cover.proofs.Searching.{size-took, size-left-out}
-use Rattle.cover.proofs.Sizes.{plan-start, plan-end}
+use Rattle.cover.proofs.SetsBySize.{plan-start, plan-end}
 use Rattle.cover.proofs.search.find_by.Statement.{statement}
 use Rattle.cover.proofs.search.find_by.Tie as tie
 

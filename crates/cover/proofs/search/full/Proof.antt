@@ -1,5 +1,5 @@
 use borrow.Author.Needs.{needs}
-use Rattle.cover.proofs.Masks.{full-shifted}
+use Rattle.integer.proofs.Masks.{full-shifted}
 use Rattle.cover.proofs.search.full.Statement.{statement}
 use Rattle.cover.proofs.search.full.Tie as tie
 

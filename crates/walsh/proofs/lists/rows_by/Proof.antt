@@ -8,7 +8,8 @@ use lib.IntN.{ℤ, pos}
 use lib.ListN.{length}
 use lib.Pow.{pow-pos}
 use Rattle.integer.specs.Tab.{Within}
-use Rattle.screen.specs.Answers.{leaves, minus}
+use Rattle.walsh.specs.Results.{leaves}
+use Rattle.screen.specs.Answers.{minus}
 use Rattle.walsh.specs.Lists.{dividedAnswer, quotientsOf, inverseRows}
 use Rattle.transform.specs.Spectrum.{spectrumOf}
 use Rattle.transform.proofs.Spectra.{length-spectrum}

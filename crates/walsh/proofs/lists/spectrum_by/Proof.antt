@@ -8,7 +8,7 @@ use lib.IntN.{ℤ}
 use lib.ListN.{length}
 use Rattle.integer.specs.Tab.{Within}
 use Rattle.integer.proofs.Bounds.{within-more}
-use Rattle.screen.specs.Answers.{written}
+use Rattle.walsh.specs.Results.{written}
 use Rattle.transform.specs.Spectrum.{spectrumOf}
 use Rattle.transform.proofs.Spectra.{length-spectrum, within-spectrum}
 use Rattle.screen.proofs.Screens.{power-few}

@@ -1,22 +1,24 @@
--- The structs of the C interface give document 01's number and values of an answer.
+-- What it means that a struct of the C functions gives an answer: it has document 01's number and values of it.
 use mathlib.Core.Path.{_≡_}
-use Prim.Native.Nat.{ℕ}
+use Prim.Native.Nat.{ℕ, _+_}
 use Rattle.fixture.specs.declared.Compared.{Compared}
 use Rattle.planner.specs.declared.Planned.{Planned}
 use Rattle.reading.specs.Readings.{readingNumber, readingPlace, readingOf, fixedOf}
 use Rattle.reading.specs.declared.Reading.{Reading}
 use Rattle.reading.specs.declared.Reading.the-variants.{Syndrome, Weighted, Constrained, Refused}
 use Rattle.report.specs.declared.Reported.{Reported}
+use Rattle.text.specs.declared.Span.{Span}
 use Rattle.screen.specs.Answers.{answerNumber, answerPlace}
 use Rattle.walsh.specs.Coefficients.{foundNumber, foundPlace, foundValue}
 use Rattle.screen.specs.declared.Answer.{Answer}
 use Rattle.walsh.specs.declared.Found.{Found}
-use Rattle.capi.specs.declared.Comparison.{Comparison}
-use Rattle.capi.specs.declared.Measured.{Measured}
-use Rattle.capi.specs.declared.Reply.{Reply}
-use Rattle.capi.specs.declared.Signature.{Signature}
-use Rattle.capi.specs.declared.Sum.{Sum}
-use Rattle.capi.specs.declared.Written.{Written}
+use Rattle.replies.specs.declared.Comparison.{Comparison}
+use Rattle.replies.specs.declared.Measured.{Measured}
+use Rattle.replies.specs.declared.Part.{Part}
+use Rattle.replies.specs.declared.Reply.{Reply}
+use Rattle.replies.specs.declared.Signature.{Signature}
+use Rattle.replies.specs.declared.Sum.{Sum}
+use Rattle.replies.specs.declared.Written.{Written}
 
 pub record Gives (r : Reply) (a : Answer) : Type 0 where
   pub number : r .number ≡ answerNumber a
@@ -57,3 +59,7 @@ pub record GivesPair (r : Comparison) (a : Compared) : Type 0 where
   pub sound : r .sound ≡ a .readings .sound
   pub faulty : r .faulty ≡ a .readings .faulty
   pub difference : r .difference ≡ a .readings .difference
+
+pub record GivesSpan (r : Part) (s : Span) : Type 0 where
+  pub start : r .start ≡ s .start
+  pub end : r .start + r .length ≡ s .end
