@@ -36,7 +36,7 @@ use Rattle.transform.proofs.Spectra.{length-spectrum, within-spectrum}
 use Rattle.faults.specs.Faults.{openedRowNumber, openedRow, openedRows, openedRight, keptInputs, openedAnswer, openedSpectrumOf}
 use Rattle.faults.proofs.Arguments.{few-is, opened-binary}
 use Rattle.faults.proofs.Digits.{digit, put-low-half, put-below, put-shows}
-use Rattle.faults.proofs.Faulted.{screened, none-undivided, opened-faulted}
+use Rattle.faults.proofs.Faulted.{openedScreen, none-undivided, opened-faulted}
 use Rattle.faults.proofs.Opening.{Bits}
 use Rattle.circuit.specs.CircuitCall.{roomAnswer, circuitAnswer, circuitSpectrum}
 use Rattle.agreement.specs.Pairs.{withPair, presentPairs, pairValue, stuckValues}
@@ -193,7 +193,7 @@ module _ (top : ℕ) (n : Netlist) (f : Fault) (right : FaultRight top f) (well 
       let inputs = opened-inputs in
       opened-binary (inputsOf (length (openedCircuitRows n f))) (stuckValues f) (few-is (length (stuckValues f)) some few) (omega arith) ∙ values-binary f
 
-  opened-screened : (room : ℕ) → screened (spectrumOf (openedCircuitRows n f)) (stuckValues f) room ≡ roomAnswer (n .inputs) room
+  opened-screened : (room : ℕ) → openedScreen (spectrumOf (openedCircuitRows n f)) (stuckValues f) room ≡ roomAnswer (n .inputs) room
   opened-screened =
       let c = spectrumOf (openedCircuitRows n f) in
       let same : inputsOf (length c) ≡ inputsOf (length (openedCircuitRows n f)) = ap inputsOf (length-spectrum (openedCircuitRows n f)) in

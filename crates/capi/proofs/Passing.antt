@@ -3,7 +3,7 @@
 use mathlib.Core.Path.{_≡_, ap, _∙_, subst}
 use mathlib.Core.List.{List}
 use lib.IntN.{ℤ}
-use Rattle.walsh.specs.Results.{leaves}
+use Rattle.results.specs.Results.{leaves}
 use Rattle.screen.specs.declared.Answer.{Answer}
 use Rattle.replies.specs.Replies.{Gives}
 use Rattle.replies.specs.declared.Reply.{Reply}

@@ -15,7 +15,7 @@ ghost use Rattle.circuit.specs.CircuitCall.{circuitAnswer, circuitSpectrum};
 ghost use Rattle.planner.specs.PlanCall.{planVerdict, planAnswer, WorkKept};
 ghost use Rattle.report.specs.ReportCall.{reportAnswer, reportLeft, reportVerdict};
 ghost use Rattle.text.specs.Text.{fieldOf, fieldStart};
-ghost use Rattle.walsh.specs.Results.{leaves};
+ghost use Rattle.results.specs.Results.{leaves};
 ghost use Rattle.walsh.specs.Coefficients.{foundOf};
 ghost use Rattle.walsh.specs.Lists.{spectrumAnswer, rowsAnswer, inverseRows};
 ghost use Rattle.transform.specs.Spectrum.{spectrumOf};

@@ -1,4 +1,4 @@
-// A circuit's spectrum, sound or under one of its faults.
+// The circuit call of document 01: the spectrum of a text's circuit, sound or under one of its faults.
 use netlist::Circuit;
 use screen::Answer;
 use statements::Fault;
@@ -8,7 +8,7 @@ ghost use lib.ListN.{length};
 ghost use Rattle.integer.specs.Tab.{Within};
 ghost use Rattle.netlist.specs.Circuits.{netlistOf, Sized};
 ghost use Rattle.simulation.specs.Rows.{rowsOf};
-ghost use Rattle.walsh.specs.Results.{leaves};
+ghost use Rattle.results.specs.Results.{leaves};
 ghost use Rattle.transform.specs.Spectrum.{spectrumOf};
 ghost use Rattle.circuit.specs.CircuitCall.{roomAnswer, circuitAnswer, circuitSpectrum};
 

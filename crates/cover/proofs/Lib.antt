@@ -1,10 +1,5 @@
-pub mod Clearing
 pub mod LabelOrder
 pub mod Marking
-pub mod Pruning
 pub mod Rising
-pub mod Searching
-pub mod Sets
-pub mod SetsBySize
 pub mod Signatures
 pub mod Table

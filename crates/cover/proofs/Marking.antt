@@ -8,7 +8,7 @@
 use mathlib.Core.Path.{_≡_, sym, ap, ap₂, _∙_, subst}
 use mathlib.Core.Bool.{Bool, not, cond}
 use mathlib.Core.List.{List, _++_}
-use Prim.Native.Nat.{ℕ, suc, _+_, _-_, _*_, _%_, _<_, _≤_, _^_}
+use Prim.Native.Nat.{ℕ, suc, _+_, _*_, _%_, _<_, _≤_, _^_}
 use native.Mathlib.Nat.{le-trans, add-zero}
 use native.Mathlib.Omega.{arith}
 use lib.Dec.{eqb}

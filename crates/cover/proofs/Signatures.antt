@@ -31,16 +31,17 @@ use Rattle.integer.proofs.Subsequences.{sub-distinct}
 use Rattle.integer.proofs.Entries.{any-some, some-any, any-mapped}
 use Rattle.integer.proofs.Differing.{differ-eq, differ-ne, eq-differ, ne-differ}
 use Rattle.transform.specs.Spectrum.{coefficientOf}
+use Rattle.search.specs.Sets.{planOf, setsOf}
+use Rattle.search.specs.Steps.{clears, labelsAt, setOf, setAt}
+use Rattle.search.proofs.Clearing.{clears-full}
+use Rattle.search.proofs.Sets.{plan-found, first-earliest, least, none-less, in-order, plan-mapped}
+use Rattle.search.proofs.SetsBySize.{sets-sub}
 use Rattle.cover.specs.Cover.{faultRows, covers, coversFault, coversAll, sameAt, silent, silentAt, firstSilent, signatureOf}
-use Rattle.cover.specs.Order.{labelsBelow, rising}
-use Rattle.cover.specs.Sets.{planOf, setsOf, precedes}
-use Rattle.cover.specs.Steps.{clears, labelsAt, setOf, setAt, coversAt, maskAt, masksOf}
+use Rattle.cover.specs.Order.{labelsBelow, rising, precedes}
+use Rattle.cover.specs.Steps.{coversAt, maskAt, masksOf}
 use Rattle.cover.proofs.LabelOrder.{labels-count, labels-all, labels-low, labels-distinct}
 use Rattle.cover.proofs.Marking.{length-masks, masks-at}
-use Rattle.cover.proofs.Clearing.{clears-full}
 use Rattle.cover.proofs.Rising.{sub-rising, labels-rising, first-precedes}
-use Rattle.cover.proofs.Sets.{plan-found, first-earliest, least, none-less, in-order, plan-mapped}
-use Rattle.cover.proofs.SetsBySize.{sets-sub}
 
 -- Silent faults.
 

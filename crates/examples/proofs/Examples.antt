@@ -11,7 +11,8 @@ use Rattle.integer.specs.ListTests.{keep, any}
 use Rattle.integer.specs.Counting.{count, allBelow}
 use Rattle.screen.specs.Answers.{inputsTo, inputsOf, outside, outsideAt, firstOutside, screenOf}
 use Rattle.walsh.specs.Coefficients.{foundOf}
-use Rattle.walsh.specs.Lists.{spectrumAnswer, unfit, unfitAt, firstUnfit, dividedAnswer, quotientAt, quotientsOf, inverseRows, rowsAnswer}
+use Rattle.walsh.specs.Lists.{spectrumAnswer, inverseRows, rowsAnswer}
+use Rattle.results.specs.Quotients.{unfit, unfitAt, firstUnfit, dividedAnswer, quotientAt, quotientsOf}
 use Rattle.transform.specs.Spectrum.{termOf, signedSum, coefficientOf, spectrumOf}
 use Rattle.faults.specs.Faults.{stuckOf, names, subsetSum, stuckCoefficientAt, stuckSpectrumOf, risingInputs, binary, fewOf, stuckRight, stuckAnswer, openedRight, linesAfter, openedSumAt, openedAt, openedSpectrumOf, undividedAt, firstUndivided, undividedAnswer, openedAnswer, replacedAll, stuckRow, stuckRows, openedRowNumber, openedRow, openedRows}
 use Rattle.text.specs.Text.{indexOf, before, after, fieldOf, fieldCount, sameBytes, digits, decimalFrom, wellFormed, numberOf}
@@ -25,12 +26,13 @@ use Rattle.simulation.specs.Rows.{inputValues, gateNext, gatesNext, lineValues,
 use Rattle.reading.specs.Readings.{agrees, countTo, countOf, wholeSum, quotient, meanOf, caseOf, pairOf}
 use Rattle.writing.specs.Writing.{decimalTo, decimalOf, integerOf, gather, numberField, numbersOf, lineOf}
 use Rattle.cover.specs.Order.{withOnes, byOnes, order, below, labelsBelow}
-use Rattle.cover.specs.Sets.{setsOf, firstOf, planFrom, planOf}
+use Rattle.search.specs.Sets.{setsOf, firstOf, planFrom, planOf}
 use Rattle.cover.specs.Cover.{covers, coversFault, coversAll, sameAt, silent, silentAt, firstSilent, signatureOf}
 use Rattle.fixture.specs.ReadingCall.{fixesInputs, someAboveOne, isWeighted, faultMean, readingAnswer, unread, pairNumbers, namesFault, pairAnswer}
 use Rattle.planner.specs.PlanCall.{silentFirst, verdictOf, planVerdict, planAnswer}
 use Rattle.circuit.specs.CircuitCall.{roomAnswer, faultAnswer, circuitAnswer, faultSpectrum, circuitSpectrum}
-use Rattle.report.specs.ReportCall.{planLine, refusedLine, labelLine, labelCovers, coveringLabel, faultReportLine, planLines, reportOf, short, reportAnswer, reportLeft}
+use Rattle.report_lines.specs.ReportLines.{planLine, refusedLine, labelLine, labelCovers, coveringLabel, faultReportLine, planLines}
+use Rattle.report.specs.ReportCall.{reportOf, short, reportAnswer, reportLeft}
 use Rattle.examples.specs.Functions.{isOneOf, figure, productOrInput, selected, gated, gatedOpened}
 use Rattle.examples.specs.Texts.{textOfLines, productOrInputText, gatedText, listing, listingReport, silentText, silentReport, pairText, halfAndOneText}
 use Rattle.examples.specs.Table.{decimal, Holds, Every, table}

@@ -13,10 +13,11 @@ use Rattle.circuit.specs.CircuitCall.{circuitAnswer, circuitSpectrum}
 use Rattle.planner.specs.PlanCall.{planned, refused, workingNumbers, planNumbers, planAnswer}
 use Rattle.reading.specs.declared.Reading.{Reading}
 use Rattle.reading.specs.declared.Reading.the-variants.{Syndrome, Weighted, Constrained, Refused}
-use Rattle.report.specs.ReportCall.{reportBytes, reportAnswer, reportLeft}
+use Rattle.report_lines.specs.ReportLines.{reportBytes}
+use Rattle.report.specs.ReportCall.{reportAnswer, reportLeft}
 use Rattle.report.specs.declared.Reported.{Reported}
 use Rattle.screen.specs.Answers.{minus}
-use Rattle.walsh.specs.Results.{leaves}
+use Rattle.results.specs.Results.{leaves}
 use Rattle.walsh.specs.Coefficients.{foundOf}
 use Rattle.walsh.specs.Lists.{spectrumAnswer, rowsAnswer, inverseRows}
 use Rattle.transform.specs.Spectrum.{coefficientOf, spectrumOf}

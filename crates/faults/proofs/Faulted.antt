@@ -66,8 +66,8 @@ module _ (rows : List ℤ) (values : List ℕ) (right : openedRight (inputsOf (l
       rw (le-ltb (firstUndivided (spectrumOf rows) values) (2 ^ keptInputs (spectrumOf rows) values) (omega arith))
 
 -- the tests before 11
-abbrev pub screened : List ℤ → List ℕ → ℕ → Answer
-screened c values room = screenOf (minus 2048000) (pos 2048000) (openedRight (inputsOf (length c)) values) c room (2 ^ keptInputs c values)
+abbrev pub openedScreen : List ℤ → List ℕ → ℕ → Answer
+openedScreen c values room = screenOf (minus 2048000) (pos 2048000) (openedRight (inputsOf (length c)) values) c room (2 ^ keptInputs c values)
 
 module _ (c : List ℤ) (values : List ℕ) where
   -- the sum at a label does not divide
@@ -94,7 +94,7 @@ module _ (c : List ℤ) (values : List ℕ) where
   unfolding firstUndivided
   at-first h = undivided-means (firstUndivided c values) (first-at (undividedAt c values) (2 ^ keptInputs c values) h)
 
-  pub undivided-exactly : (room : ℕ) → screened c values room ≡ Done
+  pub undivided-exactly : (room : ℕ) → openedScreen c values room ≡ Done
       → (answerNumber (openedAnswer c values room) ≡ 11) ↔ ((label : ℕ) × (label < 2 ^ keptInputs c values) × Undivided label)
   unfolding openedAnswer undividedAnswer
   undivided-exactly room e = (λ n. to (ltb (firstUndivided c values) (2 ^ keptInputs c values)) refl (sym (ap answerNumber passed) ∙ n), λ s. ap answerNumber passed ∙ from s)
@@ -111,16 +111,16 @@ module _ (c : List ℤ) (values : List ℕ) where
       from s = rw (lt-ltb (firstUndivided c values) (2 ^ keptInputs c values) (first-in (s .0) (s .1) (s .2)))
 
 -- the tests before 11 passed
-right-of : (rows : List ℤ) (values : List ℕ) (room : ℕ) → screened (spectrumOf rows) values room ≡ Done → openedRight (inputsOf (length rows)) values ≡ true
+right-of : (rows : List ℤ) (values : List ℕ) (room : ℕ) → openedScreen (spectrumOf rows) values room ≡ Done → openedRight (inputsOf (length rows)) values ≡ true
 right-of rows values room e =
     let k = ready 2048000 _ (spectrumOf rows) room (2 ^ keptInputs (spectrumOf rows) values) e in
     ap (λ (n : ℕ). openedRight n values) (sym (rows-inputs rows)) ∙ k .right
 
 pub opened-never-11 : (rows : List ℤ) (values : List ℕ) (room : ℕ) → answerNumber (openedAnswer (spectrumOf rows) values room) ≡ 11 → ⊥
 unfolding openedAnswer
-opened-never-11 rows values room = go (screened (spectrumOf rows) values room) refl
+opened-never-11 rows values room = go (openedScreen (spectrumOf rows) values room) refl
   where
-    go : (a : Answer) → screened (spectrumOf rows) values room ≡ a → answerNumber (andThen a (undividedAnswer (spectrumOf rows) values)) ≡ 11 → ⊥
+    go : (a : Answer) → openedScreen (spectrumOf rows) values room ≡ a → answerNumber (andThen a (undividedAnswer (spectrumOf rows) values)) ≡ 11 → ⊥
     go Done e n = let z : _≡_ {A = ℕ} 0 11 = sym (ap answerNumber (none-undivided rows values (right-of rows values room e))) ∙ n in omega arith
     go (Refused number place) e n =
         screen-not-11 (minus 2048000) (pos 2048000) (openedRight (inputsOf (length (spectrumOf rows))) values) (spectrumOf rows) room (2 ^ keptInputs (spectrumOf rows) values)
@@ -129,7 +129,7 @@ opened-never-11 rows values room = go (screened (spectrumOf rows) values room) r
 pub opened-faulted : (rows : List ℤ) (values : List ℕ) (room : ℕ) → openedAnswer (spectrumOf rows) values room ≡ Done
     → openedSpectrumOf (spectrumOf rows) values ≡ spectrumOf (openedRows (keptInputs rows values) values rows)
 unfolding openedAnswer
-opened-faulted rows values room e = opened-is rows values (right-of rows values room (first-passed (screened (spectrumOf rows) values room) _ e))
+opened-faulted rows values room e = opened-is rows values (right-of rows values room (first-passed (openedScreen (spectrumOf rows) values room) _ e))
 
 -- What replacing an input does to a row.
 

@@ -27,7 +27,7 @@ use Rattle.integer.proofs.Tabs.{length-tab, getD-tab, tab-ext, take-tab}
 use Rattle.integer.proofs.Halves.{double}
 use Rattle.transform.specs.Spectrum.{signedSum, spectrumOf}
 use Rattle.screen.specs.Answers.{refuseIf, minus, inputsOf, outside}
-use Rattle.walsh.specs.Lists.{quotientOf, quotientAt, quotientsOf, unfit, unfitAt, firstUnfit, dividedAnswer}
+use Rattle.results.specs.Quotients.{quotientOf, quotientAt, quotientsOf, unfit, unfitAt, firstUnfit, dividedAnswer}
 use Rattle.screen.specs.declared.Answer.{Answer}
 use Rattle.screen.specs.declared.Answer.the-variants.{Done}
 use Rattle.screen.proofs.Screens.{small-outside}

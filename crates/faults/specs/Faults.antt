@@ -10,7 +10,7 @@ use Rattle.integer.specs.First.{firstWhere}
 use Rattle.integer.specs.Sum.{signed}
 use Rattle.integer.specs.Tab.{tab, nth}
 use Rattle.screen.specs.Answers.{andThen, refuseIf, minus, screenOf, inputsOf}
-use Rattle.walsh.specs.Lists.{quotientOf}
+use Rattle.results.specs.Quotients.{quotientOf}
 use Rattle.screen.specs.declared.Answer.{Answer}
 use Rattle.screen.specs.declared.Answer.the-variants.{Done}
 

@@ -8,7 +8,7 @@ ghost use lib.IntN.{_+ℤ_, natAbs};
 ghost use lib.ListN.{length};
 ghost use Rattle.integer.specs.Sum.{signed};
 ghost use Rattle.integer.specs.Tab.{Within};
-ghost use Rattle.walsh.specs.Results.{leaves, written};
+ghost use Rattle.results.specs.Results.{leaves, written};
 ghost use Rattle.screen.specs.Answers.{inputsOf};
 ghost use Rattle.faults.specs.Faults.{stuckOf, stuckSpectrumOf, risingInputs, binary, stuckRight, stuckAnswer, openedAnswer, openedSpectrumOf, undividedAnswer};
 ghost use Rattle.faults.specs.Steps.{keptOf, stuckOnce};
@@ -122,9 +122,9 @@ fn stuck_by(coefficients: &[i32], lines: &[u32], values: &[u32], work: &mut [i64
     requires { ⌜ (length (now work) ≡ length (now coefficients)) × (length (now coefficients) ≤ length (now out)) ⌝ }
     ensures { λ _. ⌜ now (out .exit) ≡ written (stuckSpectrumOf (stuckOf (now (lines .entry)) (now (values .entry))) (now (coefficients .entry))) (now (out .entry)) ⌝ }
 {
-    walsh::widen(coefficients, work);
+    results::widen(coefficients, work);
     stick_all(work, lines, values);
-    walsh::narrow(work, out);
+    results::narrow(work, out);
 }
 
 // The spectrum with one to three inputs stuck, written to the front of `out`; or 9, 12, 10, 8.
@@ -178,13 +178,13 @@ fn opened_by(
     ensures { λ r. ⌜ r ≡ undividedAnswer (now (coefficients .entry)) (now (values .entry)) ⌝ }
     ensures { λ r. ⌜ now (out .exit) ≡ leaves r (openedSpectrumOf (now (coefficients .entry)) (now (values .entry))) (now (out .entry)) ⌝ }
 {
-    walsh::widen(coefficients, work);
+    results::widen(coefficients, work);
     let lines = [kept + 1, kept + 2, kept + 3];
     let k = values.len();
     stick_all(work, &lines[..k], values);
     let due: usize = 1 << kept;
     let divisor: usize = 1 << k;
-    walsh::divided(&work[..due], divisor, -2048000, 2048000, out)
+    results::divided(&work[..due], divisor, -2048000, 2048000, out)
 }
 
 // The spectrum of the n inputs with the last k lines, 1 to 3, opened and set to the values, written to the front of `out`; or 9, 12, 10, 8, 11.

@@ -13,14 +13,14 @@ use native.Mathlib.Omega.{arith}
 use lib.Dec.{leb}
 use lib.ListN.{length, getD, length-map, List·getD-eq-default}
 use borrow.Author.Tests.{leb-true, eq-eqb, le-leb}
+use lib.IntN.{pos}
 use Rattle.text.specs.Text.{fieldOf, fieldCount, numberOf, wellFormed, comma}
 use Rattle.integer.proofs.Bools.{both}
 use Rattle.text.proofs.Parts.{no-field}
-use Rattle.fields.specs.Fields.{inRange, valueAt, isLine, fits, isNumber, numbersFrom}
-use lib.IntN.{pos}
 use Rattle.writing.specs.Writing.{numbersOf}
 use Rattle.text.proofs.Words.{same-self}
 use Rattle.writing.proofs.LineFields.{Lacks, Small, first-field, next-field, next-count, word-field, line-count, natural-field}
+use Rattle.fields.specs.Fields.{inRange, valueAt, isLine, fits, isNumber, numbersFrom}
 
 pub range : (v low high : ℕ) → inRange v low high ≡ true → (low ≤ v) × (v ≤ high)
 unfolding inRange

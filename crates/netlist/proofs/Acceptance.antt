@@ -5,7 +5,7 @@
 use mathlib.Core.Path.{_≡_, refl, sym, ap, _∙_, subst, subst⁻¹}
 use mathlib.Core.Bool.{Bool, true, false, cond, _&&_, false≢true}
 use mathlib.Core.List.{List, []}
-use Prim.Native.Nat.{ℕ, _+_, _-_, _≤_}
+use Prim.Native.Nat.{ℕ, _+_, _≤_}
 use native.Mathlib.Nat.{zero-add}
 use native.Mathlib.Omega.{arith}
 use lib.Dec.{eqb, leb, ltb, lit≤}
@@ -27,10 +27,10 @@ use Rattle.fields.proofs.Chains.{unless-passed}
 use Rattle.fields.proofs.PlainLines.{range, fits-range}
 use Rattle.sections.proofs.FaultsRight.{fault-right}
 use Rattle.sections.proofs.LinesRead.{Said, lines-said}
-use Rattle.netlist.specs.Circuits.{Netlist, netlistOf}
-use Rattle.netlist.specs.Parsing.{gatesIn, outputsIn, faultsIn, Parse, accepted, rejected, onRead, endOf, bodyOf, parseOf, meaning, nthGateRefusal, nthOutputRefusal}
 use Rattle.sections.specs.Sections.{Read, items, lineRefused, lineRefusal}
 use Rattle.sections.specs.FaultLines.{nthFaultRefusal, FaultRight}
+use Rattle.netlist.specs.Circuits.{Netlist, netlistOf}
+use Rattle.netlist.specs.Parsing.{gatesIn, outputsIn, faultsIn, Parse, accepted, rejected, onRead, endOf, bodyOf, parseOf, meaning, nthGateRefusal, nthOutputRefusal}
 use Rattle.netlist.specs.WellFormed.{SecondRight, GateRight, OutputRight, WellFormed}
 use Rattle.netlist.specs.declared.Parsed.{Parsed}
 

@@ -13,12 +13,12 @@ use Rattle.text.specs.Text.{textBytes, indexOf, before, lineEnd}
 use Rattle.text.proofs.Parts.{cut-before, cut-after, cut-has, cut-none}
 use Rattle.statements.specs.Lines.{headRefusal, headOf, gateOf, outputOf, faultOf}
 use Rattle.statements.specs.declared.Head.{Head}
-use Rattle.netlist.specs.Circuits.{netlistOf}
-use Rattle.netlist.specs.Parsing.{gatesIn, outputsIn, faultsIn, accepted, rejected, endOf, bodyOf, parseOf, meaning, nthGateRefusal, nthOutputRefusal}
 use Rattle.sections.specs.FaultLines.{nthFaultRefusal}
-use Rattle.netlist.specs.declared.Parsed.{Parsed}
 use Rattle.sections.proofs.LineLoops.{Stage, stage-refused, stage-read}
 use Rattle.fields.specs.Fields.{unless}
+use Rattle.netlist.specs.Circuits.{netlistOf}
+use Rattle.netlist.specs.Parsing.{gatesIn, outputsIn, faultsIn, accepted, rejected, endOf, bodyOf, parseOf, meaning, nthGateRefusal, nthOutputRefusal}
+use Rattle.netlist.specs.declared.Parsed.{Parsed}
 
 pub meant : (p : Parsed) {number place : ℕ} → p .number ≡ number → p .place ≡ place → (number ≡ 0 → ⊥) → meaning p ≡ rejected number place
 unfolding meaning

@@ -3,7 +3,7 @@
 use mathlib.Core.Path.{_≡_, refl, ap, _∙_}
 use mathlib.Core.Bool.{true}
 use mathlib.Core.List.{List, [], _∷_, _++_, map}
-use Prim.Native.Nat.{ℕ, suc, _+_, _-_, _≤_}
+use Prim.Native.Nat.{ℕ, suc, _≤_}
 use native.Mathlib.Omega.{arith}
 use lib.IntN.{ℤ, pos, natAbs}
 use lib.ListN.{length, getD}
@@ -20,11 +20,11 @@ use Rattle.kinds.specs.declared.Kind.{Kind}
 use Rattle.kinds.specs.declared.Kind.the-variants.{And, Or, Nand, Nor, Xor, Xnor, Not}
 use Rattle.statements.specs.declared.Output.{Output}
 use Rattle.kinds.proofs.KindWords.{KindWritten, kind-written}
+use Rattle.sections.proofs.LinesWritten.{Told}
+use Rattle.fields.proofs.PlainLines.{plain-count, plain-value, plain-numbers, plain-line, in-range, fits-by, value-behind, line-behind}
 use Rattle.netlist.specs.CircuitText.{headLine, gateLine, outputLine}
 use Rattle.netlist.specs.Circuits.{Netlist}
 use Rattle.netlist.specs.WellFormed.{SecondRight, GateRight, OutputRight, WellFormed}
-use Rattle.sections.proofs.LinesWritten.{Told}
-use Rattle.fields.proofs.PlainLines.{plain-count, plain-value, plain-numbers, plain-line, in-range, fits-by, value-behind, line-behind}
 
 -- ---- the first line
 

@@ -13,17 +13,17 @@ use Rattle.text.specs.Text.{textBytes}
 use Rattle.statements.specs.Items.{noGate, noOutput, sound}
 use Rattle.statements.specs.Lines.{headRefusal, headOf, gateOf, outputOf, faultOf}
 use Rattle.statements.specs.declared.Head.{Head}
-use Rattle.netlist.specs.CircuitText.{headLine, gateLine, outputLine, textOf}
 use Rattle.sections.specs.FaultLines.{faultLine, nthFaultRefusal}
 use Rattle.sections.specs.Sections.{eachLine}
+use Rattle.sections.proofs.FaultsWritten.{fault-told}
+use Rattle.sections.proofs.LinesWritten.{told-has, told-before, told-after, lines-read, lines-short, Told}
+use Rattle.fields.specs.Fields.{unless}
+use Rattle.netlist.specs.CircuitText.{headLine, gateLine, outputLine, textOf}
 use Rattle.netlist.specs.Circuits.{Netlist}
 use Rattle.netlist.specs.Parsing.{gatesIn, outputsIn, faultsIn, accepted, endOf, bodyOf, parseOf, nthGateRefusal, nthOutputRefusal}
 use Rattle.netlist.specs.WellFormed.{WellFormed, topOf}
 use Rattle.netlist.proofs.Acceptance.{well-formed}
-use Rattle.sections.proofs.FaultsWritten.{fault-told}
-use Rattle.sections.proofs.LinesWritten.{told-has, told-before, told-after, lines-read, lines-short, Told}
 use Rattle.netlist.proofs.CircuitLines.{headWritten, head-told, gate-told, output-told}
-use Rattle.fields.specs.Fields.{unless}
 
 pub head-read : (text rest : List ℕ) (h : Head) → Told headRefusal headOf text h → length (text ++ rest) ≤ textBytes → parseOf (text ++ rest) ≡ bodyOf h rest
 unfolding parseOf unless

@@ -11,9 +11,9 @@ use lib.ListN.{length, getD}
 use lib.Pow.{pow-mono}
 use lib.Seq.{length-take-le, getD-take}
 use Rattle.integer.proofs.Machine.{bit-is}
+use Rattle.statements.specs.Items.{sound}
 use Rattle.netlist.specs.Circuits.{netlistOf, Sized, faultAt}
 use Rattle.netlist.specs.declared.Circuit.{Circuit}
-use Rattle.statements.specs.Items.{sound}
 
 module _ (c : Circuit) (size : Sized c) where
   -- the arrays are full, past the faults and outputs of the text too

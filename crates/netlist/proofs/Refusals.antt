@@ -12,16 +12,17 @@ use lib.ListN.{length}
 use borrow.Author.Tests.{ltb-true, eqb-true}
 use Rattle.text.specs.Text.{textBytes, before, after, hasByte, lineEnd}
 use Rattle.fields.specs.Fields.{unless, valueAt}
-use Rattle.statements.specs.Lines.{isHead, headFits, headRefusal, headOf, isGate, gateFits, readsBelow, gateRefusal, gateOf, isOutput, outputFits, outputRefusal, outputOf, isFault, faultFits, linesExist, linesRise, faultRefusal, faultOf}
+use Rattle.statements.specs.Lines.{isHead, headFits, headRefusal, headOf, isGate, gateFits, readsBelow, gateRefusal, gateOf, isOutput, outputFits, outputRefusal, outputOf, faultOf}
 use Rattle.statements.specs.declared.Fault.{Fault}
 use Rattle.statements.specs.declared.Gate.{Gate}
 use Rattle.statements.specs.declared.Head.{Head}
 use Rattle.statements.specs.declared.Output.{Output}
-use Rattle.netlist.specs.Parsing.{gatesIn, outputsIn, faultsIn, Parse, accepted, rejected, onRead, endOf, bodyOf, parseOf, nthGateRefusal, nthOutputRefusal}
 use Rattle.sections.specs.Sections.{Read, items, lineRefused, lineRefusal, linesOf}
 use Rattle.sections.specs.FaultLines.{nthFaultRefusal}
 use Rattle.fields.proofs.Chains.{LineNumber, numbered, not-zero}
 use Rattle.sections.proofs.LinesRead.{lines-refused}
+use Rattle.sections.proofs.FaultsRight.{fault-number}
+use Rattle.netlist.specs.Parsing.{gatesIn, outputsIn, faultsIn, Parse, accepted, rejected, onRead, endOf, bodyOf, parseOf, nthGateRefusal, nthOutputRefusal, onParse}
 use Rattle.netlist.proofs.Acceptance.{isAccepted, HeadRight, head-fits}
 use Rattle.netlist.proofs.Assembling.{too-long}
 
@@ -39,19 +40,13 @@ output-number : (top : ℕ) (l : List ℕ) → LineNumber (outputRefusal top l)
 unfolding outputRefusal
 output-number top l = numbered (isOutput l) 2 _ (lit≤ tt) (lit≤ tt) (numbered (outputFits l) 3 _ (lit≤ tt) (lit≤ tt) (numbered (leb (valueAt l 1) top) 5 0 (lit≤ tt) (lit≤ tt) (inl refl)))
 
-fault-number : (top : ℕ) (l : List ℕ) → LineNumber (faultRefusal top l)
-unfolding faultRefusal
-fault-number top l = numbered (isFault l) 2 _ (lit≤ tt) (lit≤ tt) (numbered (faultFits l) 3 _ (lit≤ tt) (lit≤ tt) (numbered (linesExist top l) 5 _ (lit≤ tt) (lit≤ tt) (numbered (linesRise l) 6 0 (lit≤ tt) (lit≤ tt) (inl refl))))
-
 -- the whole text
 
-abbrev numberOf : Parse → ℕ
-numberOf (accepted n) = 0
-numberOf (rejected number place) = number
+abbrev rejectionNumber : Parse → ℕ
+rejectionNumber = onParse (λ n. 0) (λ number place. number)
 
-abbrev placeOf : Parse → ℕ
-placeOf (accepted n) = 0
-placeOf (rejected number place) = place
+abbrev rejectionPlace : Parse → ℕ
+rejectionPlace = onParse (λ n. 0) (λ number place. place)
 
 pub record OfLine (number place : ℕ) : Type 0 where
   pub number-low : 2 ≤ number
@@ -66,8 +61,8 @@ module _ (h : Head) (right : HeadRight h) (number place : ℕ) where
     where
       go : (t : Bool) → cond t (rejected 7 (h .gates + h .outputs + h .faults + 2)) (accepted (record { inputs = h .inputs; gates = gates; outputs = outputs; faults = faults; cap = h .cap })) ≡ rejected number place → OfLine number place
       go true q =
-          let n : 7 ≡ number = ap numberOf q in
-          let p : h .gates + h .outputs + h .faults + 2 ≡ place = ap placeOf q in
+          let n : 7 ≡ number = ap rejectionNumber q in
+          let p : h .gates + h .outputs + h .faults + 2 ≡ place = ap rejectionPlace q in
           let g = right .gates-high in
           let o = right .outputs-high in
           let f = right .faults-high in
@@ -84,8 +79,8 @@ module _ (h : Head) (right : HeadRight h) (number place : ℕ) where
       go (items l end) x q = behind l end q
       go (lineRefused n p) x q =
           let a = lines-refused refusal item each n p left low rest [] x in
-          let n′ : n ≡ number = ap numberOf q in
-          let p′ : p ≡ place = ap placeOf q in
+          let n′ : n ≡ number = ap rejectionNumber q in
+          let p′ : p ≡ place = ap rejectionPlace q in
           record { number-low = omega (arith, a .number-low); number-high = omega (arith, a .number-high); place-low = omega (arith, a .place-low); place-high = omega (arith, a .place-high) }
 
   in-body : (rest : List ℕ) → bodyOf h rest ≡ rejected number place → OfLine number place
@@ -122,8 +117,8 @@ short-refused text number place few e = go (eqb line 0) refl (rw few at e)
     go : (t : Bool) → eqb line 0 ≡ t → cond t (bodyOf (headOf head) (after lineEnd text)) (rejected line 1) ≡ rejected number place → OfLine number place
     go true z q = in-body (headOf head) (head-fits head (passed (hasByte lineEnd text) z)) number place (after lineEnd text) q
     go false z q =
-        let n : line ≡ number = ap numberOf q in
-        let p : 1 ≡ place = ap placeOf q in
+        let n : line ≡ number = ap rejectionNumber q in
+        let p : 1 ≡ place = ap rejectionPlace q in
         let s = not-zero line (numbered (hasByte lineEnd text) 2 (headRefusal head) (lit≤ tt) (lit≤ tt) (head-number head)) z in
         record { number-low = omega (arith, s .0); number-high = omega (arith, s .1); place-low = omega arith; place-high = omega arith }
 
@@ -131,7 +126,7 @@ pub text-refused : (text : List ℕ) (number place : ℕ) → parseOf text ≡ r
 text-refused text number place e = go (ltb textBytes (length text)) refl
   where
     go : (t : Bool) → ltb textBytes (length text) ≡ t → ((number ≡ 1) × (place ≡ 0)) ⊎ OfLine number place
-    go true b = let q = sym e ∙ too-long text (ltb-true textBytes (length text) b) in inl (ap numberOf q, ap placeOf q)
+    go true b = let q = sym e ∙ too-long text (ltb-true textBytes (length text) b) in inl (ap rejectionNumber q, ap rejectionPlace q)
     go false b = inr (short-refused text number place b e)
 
 pub one-exactly : (text : List ℕ) → (parseOf text ≡ rejected 1 0) ↔ (textBytes < length text)

@@ -13,9 +13,9 @@ use Rattle.statements.specs.Lines.{circuitWord, gateWord, outputWord}
 use Rattle.kinds.specs.Kinds.{kindWord}
 use Rattle.statements.specs.declared.Gate.{Gate}
 use Rattle.statements.specs.declared.Output.{Output}
-use Rattle.netlist.specs.Circuits.{Netlist}
 use Rattle.sections.specs.Sections.{eachLine}
 use Rattle.sections.specs.FaultLines.{faultLine}
+use Rattle.netlist.specs.Circuits.{Netlist}
 
 unfoldable pub headLine : Netlist → List ℕ
 headLine n =

@@ -11,10 +11,10 @@ use Rattle.statements.specs.declared.Fault.{Fault}
 use Rattle.statements.specs.declared.Gate.{Gate}
 use Rattle.statements.specs.declared.Head.{Head}
 use Rattle.statements.specs.declared.Output.{Output}
-use Rattle.netlist.specs.Circuits.{Netlist, netlistOf}
-use Rattle.netlist.specs.declared.Parsed.{Parsed}
 use Rattle.sections.specs.Sections.{Read, items, lineRefused, lineRefusal, linesOf}
 use Rattle.sections.specs.FaultLines.{nthFaultRefusal}
+use Rattle.netlist.specs.Circuits.{Netlist, netlistOf}
+use Rattle.netlist.specs.declared.Parsed.{Parsed}
 
 -- "Inputs are lines 1 to N; the j-th gate (from 1) drives line N+j."
 abbrev pub nthGateRefusal : ℕ → ℕ → List ℕ → ℕ

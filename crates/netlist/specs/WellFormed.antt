@@ -9,8 +9,8 @@ use Rattle.statements.specs.declared.Gate.{Gate}
 use Rattle.kinds.specs.declared.Kind.{Kind}
 use Rattle.kinds.specs.declared.Kind.the-variants.{And, Or, Nand, Nor, Xor, Xnor, Not}
 use Rattle.statements.specs.declared.Output.{Output}
-use Rattle.netlist.specs.Circuits.{Netlist}
 use Rattle.sections.specs.FaultLines.{FaultRight}
+use Rattle.netlist.specs.Circuits.{Netlist}
 
 -- "B is 1 to 56, and 0 for `not`"
 abbrev pub SecondRight : Kind → ℕ → Type 0

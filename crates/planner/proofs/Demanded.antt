@@ -13,8 +13,8 @@ use lib.ListN.{length, take, getD, List·getD-eq-default}
 use lib.Pow.{pow-mono}
 use borrow.Author.Tests.{ltb-true, ltb-false, le-ltb}
 use Rattle.cover.specs.Cover.{faultRows, firstSilent, signatureOf}
-use Rattle.cover.specs.Order.{rising}
-use Rattle.cover.specs.Sets.{precedes, fourOf}
+use Rattle.cover.specs.Order.{rising, precedes}
+use Rattle.search.specs.Sets.{fourOf}
 use Rattle.cover.proofs.Signatures.{Covering, silent-at, silent-before, silent-none, signature-found, signature-ordered, signature-least, signature-none, signature-first}
 use Rattle.integer.specs.Tab.{nth}
 use Rattle.integer.specs.ListTests.{distinct}

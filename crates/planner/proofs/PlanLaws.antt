@@ -25,9 +25,10 @@ use borrow.Author.Count.{below-more}
 use borrow.Author.Tests.{lt-ltb, le-ltb}
 use Rattle.cover.specs.Cover.{faultRows, silent, silentAt, firstSilent, signatureOf}
 use Rattle.cover.specs.Order.{labelsBelow}
-use Rattle.cover.specs.Sets.{planOf, fourOf}
-use Rattle.cover.specs.Steps.{clears, marked, masksOf, setOf, setAt}
-use Rattle.cover.specs.declared.LabelSet.{LabelSet}
+use Rattle.search.specs.Sets.{planOf, fourOf}
+use Rattle.search.specs.Steps.{clears, setOf, setAt}
+use Rattle.cover.specs.Steps.{marked, masksOf}
+use Rattle.search.specs.declared.LabelSet.{LabelSet}
 use Rattle.cover.proofs.LabelOrder.{labels-count, labels-below}
 use Rattle.cover.proofs.Marking.{no-masks, marked-more, length-masks, masks-below}
 use Rattle.cover.proofs.Signatures.{found-is, signature-found}
@@ -44,11 +45,11 @@ use Rattle.netlist.specs.declared.Parsed.{Parsed}
 use Rattle.netlist.proofs.Assembling.{meant}
 use Rattle.simulation.specs.Rows.{rowsOf}
 use Rattle.simulation.proofs.RowBounds.{length-rows, rows-in-range}
-use Rattle.planner.specs.PlanCall.{Verdict, refused, soundRows, faultedRows, searched, silentFirst, verdictOf, workingNumbers, planVerdict, planNumbers, mayUse, WorkKept}
-use Rattle.planner.specs.declared.Planned.{Planned}
 use Rattle.netlist.proofs.Counts.{due, due-is, due-few}
 use Rattle.netlist.proofs.Acceptance.{accepted-as}
 use Rattle.statements.specs.Items.{sound}
+use Rattle.planner.specs.PlanCall.{Verdict, refused, soundRows, faultedRows, searched, silentFirst, verdictOf, workingNumbers, planVerdict, planNumbers, mayUse, WorkKept}
+use Rattle.planner.specs.declared.Planned.{Planned}
 use Rattle.planner.proofs.FaultRows.{fault-rows-next, fault-count}
 
 -- Marking the faults.

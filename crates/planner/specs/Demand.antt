@@ -8,8 +8,7 @@ use mathlib.Core.Logic.{_↔_, _⊎_}
 use mathlib.Core.Path.{_≡_}
 use lib.ListN.{length, take, getD}
 use Rattle.integer.specs.ListTests.{distinct}
-use Rattle.cover.specs.Order.{rising}
-use Rattle.cover.specs.Sets.{precedes}
+use Rattle.cover.specs.Order.{rising, precedes}
 use Rattle.netlist.specs.Circuits.{Netlist, faultAt}
 use Rattle.simulation.specs.Rows.{rowValue, rowsOf}
 use Rattle.statements.specs.Items.{sound}

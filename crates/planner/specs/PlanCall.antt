@@ -12,7 +12,7 @@ use lib.Dec.{eqb, ltb}
 use lib.IntN.{ℤ}
 use lib.ListN.{length, drop}
 use Rattle.cover.specs.Cover.{firstSilent, signatureOf}
-use Rattle.cover.specs.Sets.{fourOf}
+use Rattle.search.specs.Sets.{fourOf}
 use Rattle.netlist.specs.Circuits.{Netlist}
 use Rattle.netlist.specs.Parsing.{onParse, parseOf}
 use Rattle.simulation.specs.Rows.{rowsOf}

@@ -1,9 +1,9 @@
-// The calls of document 01 on a circuit text that give a spectrum or a plan; the report is the crate `report`'s.
+// The plan call of document 01 on a circuit text.
 mod plan_call;
 
 pub use plan_call::plan;
 
-// Leaves for crates of this repository, with a `requires`: no calls of the papers.
+// A leaf for crates of this repository, with a `requires`: no call of the papers.
 pub use plan_call::plan_circuit;
 
 // The working numbers of 32 bits that a plan asks for.

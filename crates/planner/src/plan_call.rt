@@ -67,7 +67,7 @@ fn plan_by(
     if first < count {
         return refuse(13, first + 1);
     }
-    let chosen = cover::find(masks, labels, count as u32, c.head.cap);
+    let chosen = search::find(masks, labels, count as u32, c.head.cap);
     let size = chosen.size;
     if size == 0 {
         return refuse(14, 0);

@@ -1,2 +1,1 @@
 pub mod ReportLaws
-pub mod ReportLines

@@ -7,7 +7,7 @@
 --   refusal-small      the numbers of a text's refusal
 --   text-refuses, text-serves, short-out, short-work, report-served    the call, by the parser's answer and the lent buffers
 use mathlib.Core.Path.{_≡_, refl, sym, ap, ap₂, _∙_, subst}
-use mathlib.Core.Bool.{Bool, true, false, cond, _||_}
+use mathlib.Core.Bool.{Bool, true, false, cond, or-true}
 use mathlib.Core.List.{List, _++_, append-assoc}
 use mathlib.Core.Logic.{⊎-elim}
 use mathlib.Core.Option.{Option, none, some}
@@ -33,12 +33,13 @@ use Rattle.statements.specs.Items.{sound as unfaulted}
 use Rattle.writing.specs.Writing.{placed, gather}
 use Rattle.writing.proofs.Writings.{length-placed, placed-more, placed-front, gather-length}
 use Rattle.planner.specs.PlanCall.{Verdict, refused, planned, soundRows, faultedRows, searched, silentFirst, verdictOf, workingNumbers, planVerdict, planNumbers, WorkKept}
-use Rattle.report.specs.ReportCall.{planLine, refusedLine, labelLine, faultReportLine, planLines, verdictLines, circuitReport, reportOf, reportBytes, short, reportAnswer, reportLeft, reportVerdict}
 use Rattle.planner.specs.declared.Planned.{Planned}
-use Rattle.report.specs.declared.Reported.{Reported}
 use Rattle.planner.proofs.FaultRows.{fault-count}
 use Rattle.planner.proofs.PlanLaws.{kept, kept-four}
-use Rattle.report.proofs.ReportLines.{refused-length, plan-length, label-line-length, fault-line-length}
+use Rattle.report_lines.specs.ReportLines.{planLine, refusedLine, labelLine, faultReportLine, planLines, reportBytes}
+use Rattle.report_lines.proofs.ReportLines.{refused-length, plan-length, label-line-length, fault-line-length}
+use Rattle.report.specs.ReportCall.{verdictLines, circuitReport, reportOf, short, reportAnswer, reportLeft, reportVerdict}
+use Rattle.report.specs.declared.Reported.{Reported}
 
 module _ (n : Netlist) (right : WellFormed n) (labels : List ℕ) (low : Below (2 ^ n .inputs) labels) where
   label-part : length (gather (labelLine (soundRows n) labels) (length labels)) ≤ length labels * 17
@@ -197,11 +198,7 @@ module _ (text out work : List ℕ) where
 
   pub short-work : length work < workingNumbers → Short
   unfolding short
-  short-work h = too-short (rw (lt-ltb (length work) workingNumbers h) (either (ltb (length out) reportBytes)))
-    where
-      either : (b : Bool) → (b || true) ≡ true
-      either true = refl
-      either false = refl
+  short-work h = too-short (rw (lt-ltb (length work) workingNumbers h) (or-true (ltb (length out) reportBytes)))
 
   pub report-served : reportBytes ≤ length out → workingNumbers ≤ length work → {end : ℕ} {now after : List ℕ}
       → (end ≡ length (reportOf text)) × ((now ≡ placed 0 (reportOf text) out) × WorkKept (planVerdict text (length work)) work after)

@@ -1,2 +1,1 @@
 pub mod ReportCall
-pub mod Steps

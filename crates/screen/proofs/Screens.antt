@@ -7,7 +7,7 @@
 --   found-outside, none-outside                 what a loop that tests one number after the other has found
 --   any-turn, any-all                           what a loop that tests every number has found
 --   screened-within, within-screened            no number outside -B .. B means a list within B
---   test-passed                                 where a test and those after it give Done, it does not hold
+--   refuse-passed                               where a test and those after it give Done, it does not hold, and they give Done
 --   Screened, screen-done, done-screen          what the answer Done of `screenOf` means
 --   Ready, ready                                and what a call knows by it
 --   screen-unsized, -wrong, -outside, -short    its refusals, in their order
@@ -195,9 +195,9 @@ pub record Screened (low high : ℤ) (test : Bool) (l : List ℤ) (room due : �
   pub inside : length l ≤ firstOutside low high l
   pub fits : due ≤ room
 
-pub test-passed : (test : Bool) (number place : ℕ) (next : Answer) → refuseIf test number place next ≡ Done → (test ≡ false) × (next ≡ Done)
-test-passed true number place next e = let z : _≡_ {A = ℕ} 0 1 = cc in absurd (omega arith)
-test-passed false number place next e = (refl, e)
+pub refuse-passed : (test : Bool) (number place : ℕ) (next : Answer) → refuseIf test number place next ≡ Done → (test ≡ false) × (next ≡ Done)
+refuse-passed true number place next e = let z : _≡_ {A = ℕ} 0 1 = cc in absurd (omega arith)
+refuse-passed false number place next e = (refl, e)
 
 pub above-zero : (n : ℕ) → (n ≡ 0 → ⊥) → 0 < n
 above-zero zero f = absurd (f refl)
@@ -206,10 +206,10 @@ above-zero (suc n) f = omega arith
 pub screen-done : (low high : ℤ) (test : Bool) (l : List ℤ) (room due : ℕ) → screenOf low high test l room due ≡ Done → Screened low high test l room due
 unfolding screenOf
 screen-done low high test l room due e =
-    let a = test-passed (eqb (inputsOf (length l)) 0) 9 0 _ e in
-    let b = test-passed (not test) 12 0 _ (a .1) in
-    let c = test-passed (ltb (firstOutside low high l) (length l)) 10 (firstOutside low high l) _ (b .1) in
-    let d = test-passed (ltb room due) 8 0 _ (c .1) in
+    let a = refuse-passed (eqb (inputsOf (length l)) 0) 9 0 _ e in
+    let b = refuse-passed (not test) 12 0 _ (a .1) in
+    let c = refuse-passed (ltb (firstOutside low high l) (length l)) 10 (firstOutside low high l) _ (b .1) in
+    let d = refuse-passed (ltb room due) 8 0 _ (c .1) in
     record { sized = above-zero _ (eqb-false _ _ (a .0)); right = not-false test (b .0); inside = ltb-false _ _ (c .0); fits = ltb-false _ _ (d .0) }
 
 -- where tests after others give Done, the first did

@@ -1,5 +1,6 @@
 -- What the tests of a fault line show:
 --   fault-right    a fault line that is not refused names one to three lines, rising, that exist
+--   fault-number   the number of a fault line is 0 or 2 to 6
 --   free-line      a pair that is not there names line 0
 use mathlib.Core.Path.{_≡_, refl, ap}
 use mathlib.Core.Bool.{Bool, true, false, _&&_, _||_, true≢false, false≢true}
@@ -17,9 +18,9 @@ use Rattle.statements.specs.Items.{free}
 use Rattle.fields.specs.Fields.{inRange, valueAt, isLine}
 use Rattle.statements.specs.Lines.{faultWord, isFault, pairInRange, pairFits, faultFits, linesExist, risesAt, linesRise, faultRefusal, pairAt, faultOf}
 use Rattle.statements.specs.declared.Pair.{Pair}
-use Rattle.sections.specs.FaultLines.{Above, FaultRight}
-use Rattle.fields.proofs.Chains.{unless-passed}
+use Rattle.fields.proofs.Chains.{unless-passed, LineNumber, numbered}
 use Rattle.fields.proofs.PlainLines.{range, absent}
+use Rattle.sections.specs.FaultLines.{Above, FaultRight}
 
 second-holds : (a b : Bool) → a ≡ false → (a || b) ≡ true → b ≡ true
 second-holds true b f e = absurd (true≢false f)
@@ -84,3 +85,7 @@ fault-right top l e =
         go : Dec (fieldCount l ≤ 5) → valueAt l 5 ≡ 0
         go (yes none) = absent l 5 none
         go (no some) = let h : 3 < fieldCount l = omega (arith, lt-of-not-le some) in absurd (omega (arith, there-rises l 3 h r))
+
+pub fault-number : (top : ℕ) (l : List ℕ) → LineNumber (faultRefusal top l)
+unfolding faultRefusal
+fault-number top l = numbered (isFault l) 2 _ (lit≤ tt) (lit≤ tt) (numbered (faultFits l) 3 _ (lit≤ tt) (lit≤ tt) (numbered (linesExist top l) 5 _ (lit≤ tt) (lit≤ tt) (numbered (linesRise l) 6 0 (lit≤ tt) (lit≤ tt) (inl refl))))

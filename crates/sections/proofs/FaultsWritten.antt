@@ -1,6 +1,6 @@
 -- The line of a fault is accepted as that fault:
 --   fault-told    a line of one, two or three pairs that rise, each a line of the circuit
---   Pairs         the numbers behind the first pair: those of none, one or two more
+--   Pairs         the numbers behind the first pairFields: those of none, one or two more
 use mathlib.Core.Path.{_≡_, refl, sym, ap, ap₂, _∙_}
 use mathlib.Core.Bool.{Bool, true, false, cond, _||_, or-true}
 use mathlib.Core.List.{List, [], _∷_, _++_, map}
@@ -19,26 +19,26 @@ use Rattle.fields.specs.Fields.{valueAt, isLine, unless}
 use Rattle.statements.specs.Lines.{faultWord, isFault, pairInRange, pairFits, faultFits, linesExist, risesAt, linesRise, faultRefusal, pairAt, faultOf}
 use Rattle.statements.specs.declared.Fault.{Fault}
 use Rattle.statements.specs.declared.Pair.{Pair}
+use Rattle.fields.proofs.PlainLines.{plain-count, plain-value, plain-line, in-range}
 use Rattle.sections.specs.FaultLines.{pairWritten, faultLine, Above, FaultRight}
 use Rattle.sections.proofs.FaultsRight.{free-line}
 use Rattle.sections.proofs.LinesWritten.{Told}
-use Rattle.fields.proofs.PlainLines.{plain-count, plain-value, plain-line, in-range}
 
-abbrev bit : Bool → ℕ
-bit v = cond v 1 0
+abbrev valueBit : Bool → ℕ
+valueBit v = cond v 1 0
 
-bit-range : (v : Bool) → bit v ≤ 1
+bit-range : (v : Bool) → valueBit v ≤ 1
 bit-range true = omega arith
 bit-range false = omega arith
 
-bit-read : (v : Bool) → eqb (bit v) 1 ≡ v
+bit-read : (v : Bool) → eqb (valueBit v) 1 ≡ v
 bit-read true = refl
 bit-read false = refl
 
-abbrev pair : Pair → List ℕ
-pair s = s .line ∷ bit (s .value) ∷ []
+abbrev pairFields : Pair → List ℕ
+pairFields s = s .line ∷ valueBit (s .value) ∷ []
 
-pair-there : (s : Pair) → 1 ≤ s .line → pairWritten s ≡ map pos (pair s)
+pair-there : (s : Pair) → 1 ≤ s .line → pairWritten s ≡ map pos (pairFields s)
 unfolding pairWritten
 pair-there s h = rw (ne-eqb (s .line) 0 (λ e. omega arith))
 
@@ -46,12 +46,12 @@ pair-none : (s : Pair) → s ≡ free → pairWritten s ≡ []
 unfolding pairWritten
 pair-none s e = rw e
 
--- the pair at field k of a line, s, is there or `free`
-module _ (l : List ℕ) (k : ℕ) (s : Pair) (line-is : valueAt l k ≡ s .line) (value-is : valueAt l (suc k) ≡ bit (s .value)) where
+-- the pairFields at field k of a line, s, is there or `free`
+module _ (l : List ℕ) (k : ℕ) (s : Pair) (line-is : valueAt l k ≡ s .line) (value-is : valueAt l (suc k) ≡ valueBit (s .value)) where
   pair-fits : (fieldCount l ≤ k) ⊎ (1 ≤ s .line) → s .line ≤ 56 → pairFits l k ≡ true
   unfolding pairFits pairInRange
   pair-fits (inl none) h = rw (le-leb (fieldCount l) k none)
-  pair-fits (inr some) h = rw (line-is, value-is, in-range (s .line) 1 56 some h, in-range (bit (s .value)) 0 1 (omega arith) (bit-range (s .value))) (or-true (leb (fieldCount l) k))
+  pair-fits (inr some) h = rw (line-is, value-is, in-range (s .line) 1 56 some h, in-range (valueBit (s .value)) 0 1 (omega arith) (bit-range (s .value))) (or-true (leb (fieldCount l) k))
 
   pair-rises : (last : ℕ) → valueAt l (k - 2) ≡ last → (fieldCount l ≤ k) ⊎ (last < s .line) → risesAt l k ≡ true
   unfolding risesAt
@@ -62,9 +62,9 @@ module _ (l : List ℕ) (k : ℕ) (s : Pair) (line-is : valueAt l k ≡ s .line)
   unfolding pairAt
   pair-says = rw (line-is, value-is, bit-read (s .value))
 
--- s is the pair whose numbers stand at k, or free where none are left
+-- s is the pairFields whose numbers stand at k, or free where none are left
 abbrev PairIn : List ℕ → ℕ → Pair → Type 0
-PairIn more k s = (getD more k 0 ≡ s .line) × (getD more (suc k) 0 ≡ bit (s .value))
+PairIn more k s = (getD more k 0 ≡ s .line) × (getD more (suc k) 0 ≡ valueBit (s .value))
 
 -- `more` are the numbers of the pairs behind the first
 record Pairs (f : Fault) (more : List ℕ) : Type 0 where
@@ -78,14 +78,14 @@ record Pairs (f : Fault) (more : List ℕ) : Type 0 where
   third-there : (length more < 3) ⊎ (f .second .line < f .third .line)
 
 in-none : (k : ℕ) (s : Pair) → s ≡ free → PairIn [] k s
-in-none k s e = (sym (free-line e), ap (λ (s : Pair). bit (s .value)) (sym e))
+in-none k s e = (sym (free-line e), ap (λ (s : Pair). valueBit (s .value)) (sym e))
 
 module _ (top : ℕ) (f : Fault) (most : top ≤ 56) (r : FaultRight top f) where
   above-high : (last : ℕ) (s : Pair) → Above last top s → s .line ≤ top
   above-high last s (inl none) = omega (arith, free-line none)
   above-high last s (inr some) = some .1
 
-  pair-small : (s : Pair) → s .line ≤ top → Small (pair s)
+  pair-small : (s : Pair) → s .line ≤ top → Small (pairFields s)
   pair-small s h = (omega arith, (omega (arith, bit-range (s .value)), tt))
 
   pairs-told : (more : List ℕ) → Pairs f more → Told (faultRefusal top) faultOf (faultLine f) f
@@ -115,7 +115,7 @@ module _ (top : ℕ) (f : Fault) (most : top ≤ 56) (r : FaultRight top f) wher
       }
     where
       ns : List ℕ
-      ns = f .first .line ∷ bit (f .first .value) ∷ more
+      ns = f .first .line ∷ valueBit (f .first .value) ∷ more
 
       small : Small ns
       small = (omega (arith, r .first-high), (omega (arith, bit-range (f .first .value)), p .small))
@@ -135,10 +135,10 @@ module _ (top : ℕ) (f : Fault) (most : top ≤ 56) (r : FaultRight top f) wher
           next : 3 + length more ≡ suc (length ns)
           next = omega arith
 
-      two : (valueAt l 3 ≡ f .second .line) × (valueAt l 4 ≡ bit (f .second .value))
+      two : (valueAt l 3 ≡ f .second .line) × (valueAt l 4 ≡ valueBit (f .second .value))
       two = (at 2 ∙ p .second .0, at 3 ∙ p .second .1)
 
-      three : (valueAt l 5 ≡ f .third .line) × (valueAt l 6 ≡ bit (f .third .value))
+      three : (valueAt l 5 ≡ f .third .line) × (valueAt l 6 ≡ valueBit (f .third .value))
       three = (at 4 ∙ p .third .0, at 5 ∙ p .third .1)
 
       two-high : f .second .line ≤ top
@@ -169,7 +169,7 @@ module _ (top : ℕ) (f : Fault) (most : top ≤ 56) (r : FaultRight top f) wher
           }
       go (inl none) (inr some) = absurd (omega (arith, some .0, r .no-gap (free-line none)))
       go (inr some) (inl last) =
-          pairs-told (pair (f .second))
+          pairs-told (pairFields (f .second))
           record {
             written = rw (pair-there (f .second) (omega (arith, some .0)), pair-none (f .third) last);
             small = pair-small (f .second) (some .1);
@@ -181,7 +181,7 @@ module _ (top : ℕ) (f : Fault) (most : top ≤ 56) (r : FaultRight top f) wher
             third-there = inl (omega arith);
           }
       go (inr some) (inr next) =
-          pairs-told (pair (f .second) ++ pair (f .third))
+          pairs-told (pairFields (f .second) ++ pairFields (f .third))
           record {
             written = rw (pair-there (f .second) (omega (arith, some .0)), pair-there (f .third) (omega (arith, next .0)));
             small = (pair-small (f .second) (some .1) .0, (pair-small (f .second) (some .1) .1 .0, pair-small (f .third) (next .1)));

@@ -15,8 +15,8 @@ use lib.Seq.{take-suc-set, length-take-le}
 use borrow.Author.Tests.{eq-eqb, ne-eqb}
 use Rattle.text.specs.Text.{indexOf, before, after, lineEnd}
 use Rattle.text.proofs.Parts.{cut-before, cut-after, cut-has, cut-none}
-use Rattle.sections.specs.Sections.{Read, items, lineRefused, lineRefusal, linesOf, readOf}
 use Rattle.fields.specs.Fields.{unless}
+use Rattle.sections.specs.Sections.{Read, items, lineRefused, lineRefusal, linesOf, readOf}
 
 module _ {A : Type 0} (text : List ℕ) (count number place at : ℕ) (l : List A) where
   read-refused : (number ≡ 0 → ⊥) → readOf text count number place at l ≡ lineRefused number place

@@ -4,7 +4,7 @@
 use mathlib.Core.Path.{_≡_, refl, sym, ap, _∙_, subst, subst⁻¹}
 use mathlib.Core.Bool.{Bool, true, false, cond, true≢false, false≢true}
 use mathlib.Core.List.{List, [], _∷_, _++_}
-use Prim.Native.Nat.{ℕ, zero, suc, _+_, _-_, _<_, _≤_}
+use Prim.Native.Nat.{ℕ, zero, suc, _+_, _<_, _≤_}
 use native.Mathlib.Nat.{add-zero, lt-of-not-le}
 use native.Mathlib.Decide.{decLe}
 use native.Mathlib.Omega.{arith}
@@ -14,8 +14,8 @@ use lib.Seq.{getD-append-seam}
 use borrow.Author.Tests.{eqb-true}
 use Rattle.text.specs.Text.{before, after, lineEnd, indexOf, hasByte}
 use Rattle.fields.specs.Fields.{unless}
-use Rattle.sections.specs.Sections.{Read, items, lineRefused, lineRefusal, linesOf}
 use Rattle.fields.proofs.Chains.{LineNumber, numbered, not-zero}
+use Rattle.sections.specs.Sections.{Read, items, lineRefused, lineRefusal, linesOf}
 
 abbrev itemsOf : {A : Type 0} → Read A → List A
 itemsOf (items l rest) = l

@@ -5,17 +5,17 @@
 use mathlib.Core.Path.{_≡_, ap, _∙_, subst}
 use mathlib.Core.Bool.{true}
 use mathlib.Core.List.{List, [], _∷_, _++_, append-assoc, append-nil}
-use Prim.Native.Nat.{ℕ, suc, _+_, _-_, _<_, _≤_, _*_}
+use Prim.Native.Nat.{ℕ, suc, _+_, _<_, _≤_, _*_}
 use native.Mathlib.Omega.{arith}
 use lib.IntN.{ℤ}
 use lib.ListN.{length, getD, length-append}
+use native.Mathlib.Nat.{add-zero, zero-add}
 use Rattle.text.specs.Text.{lineEnd, before, after, hasByte}
 use Rattle.writing.specs.Writing.{numbersOf, lineOf, gather}
 use Rattle.writing.proofs.LineFields.{Lacks, gather-cons, line-has, line-before, line-after}
-use native.Mathlib.Nat.{add-zero, zero-add}
 use Rattle.writing.proofs.Writings.{gather-length}
-use Rattle.sections.specs.Sections.{eachLine, items, linesOf}
 use Rattle.fields.specs.Fields.{unless}
+use Rattle.sections.specs.Sections.{eachLine, items, linesOf}
 
 -- `text` is a line, with its end, that is not refused and says x
 pub record Told {A : Type 0} (refusal : List ℕ → ℕ) (item : List ℕ → A) (text : List ℕ) (x : A) : Type 0 where

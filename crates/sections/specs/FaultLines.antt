@@ -1,16 +1,16 @@
 -- The fault lines of a text: how they are refused and written, and what a right fault is (document 01, "The circuit text"):
 --   "Q lines `fault,LINE,VALUE`, with one to three LINE,VALUE pairs: LINE 1 to 56 and rising, VALUE 0 or 1."
-use Prim.Native.Nat.{ℕ, _+_, _<_, _≤_}
+use Prim.Native.Nat.{ℕ, _<_, _≤_}
 use mathlib.Core.Bool.{cond}
 use mathlib.Core.List.{List, [], _∷_, _++_}
 use lib.Dec.{eqb}
 use lib.IntN.{ℤ, pos}
+use mathlib.Core.Logic.{_⊎_}
+use mathlib.Core.Path.{_≡_}
 use Rattle.writing.specs.Writing.{lineOf}
 use Rattle.statements.specs.Lines.{faultWord, faultRefusal}
 use Rattle.statements.specs.declared.Fault.{Fault}
 use Rattle.statements.specs.declared.Pair.{Pair}
-use mathlib.Core.Logic.{_⊎_}
-use mathlib.Core.Path.{_≡_}
 use Rattle.statements.specs.Items.{free}
 
 -- the j-th of them, from 0, where the last line that may be named is `top`

@@ -1,5 +1,6 @@
--- Lines of one kind, one after the other: what they say with the text that follows them, or the first refusal with its place.
-use Prim.Native.Nat.{ℕ, zero, suc, _+_}
+-- Lines of one kind, one after the other: what they say with the text that follows them, or the first refusal with its place (document 01, "What is
+-- returned"): "Text: 1 first, then line by line" "Place is a line of the text (from 1)".
+use Prim.Native.Nat.{ℕ, zero, suc}
 use mathlib.Core.Bool.{cond}
 use mathlib.Core.List.{List, [], _∷_, _++_}
 use lib.Dec.{eqb}

@@ -1,5 +1,4 @@
-// Lines of a text, one kind after the other, over any kind of item in the definitions and laws; and the fault lines, which several kinds of texts
-// share.
+// The fault lines of a text, one after the other. The definitions and laws beside them are over lines of any kind.
 use statements::Fault;
 use statements::Pair;
 ghost use mathlib.Core.Path.{_≡_};

@@ -6,7 +6,8 @@ ghost use Prim.Native.Nat.{_≤_};
 ghost use lib.ListN.{length, take};
 ghost use Rattle.io.specs.Counts.{Counts};
 ghost use Rattle.planner.specs.PlanCall.{workingNumbers};
-ghost use Rattle.report.specs.ReportCall.{reportBytes, reportOf};
+ghost use Rattle.report_lines.specs.ReportLines.{reportBytes};
+ghost use Rattle.report.specs.ReportCall.{reportOf};
 
 // The report on the text, at the front of `out`, and how many bytes it has.
 fn written(text: &[u8], out: &mut [u8], work: &mut [u32]) -> usize

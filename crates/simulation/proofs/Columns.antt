@@ -19,10 +19,10 @@ use Rattle.statements.specs.Items.{noGate}
 use Rattle.statements.specs.declared.Fault.{Fault}
 use Rattle.statements.specs.declared.Gate.{Gate}
 use Rattle.gates.specs.Gates.{gateValue, shown, applied}
-use Rattle.simulation.specs.Rows.{inputValues, reads, gateNext, gatesNext}
 use Rattle.gates.specs.Steps.{shownAt, seenAs, Columned, inputRule, gateRule}
-use Rattle.simulation.specs.Steps.{Columns, inputLines, slotOf}
 use Rattle.gates.specs.declared.Seen.{Seen}
+use Rattle.simulation.specs.Rows.{inputValues, reads, gateNext, gatesNext}
+use Rattle.simulation.specs.Steps.{Columns, inputLines, slotOf}
 use Rattle.simulation.proofs.LineValues.{length-inputs, length-lines, input-more, gates-more}
 
 -- What columns say of lines.

@@ -4,7 +4,7 @@
 use mathlib.Core.Path.{_≡_, refl, sym, ap, _∙_}
 use mathlib.Core.Bool.{Bool}
 use mathlib.Core.List.{List, [], _∷_, _++_}
-use Prim.Native.Nat.{ℕ, _+_, _-_, _≤_, _<_}
+use Prim.Native.Nat.{ℕ, _+_, _≤_, _<_}
 use native.Mathlib.Nat.{min-le-left}
 use native.Mathlib.Numerals.{add-one}
 use native.Mathlib.Omega.{arith}
@@ -14,11 +14,11 @@ use Rattle.integer.specs.Tab.{tab}
 use Rattle.integer.proofs.Tabs.{length-tab}
 use Rattle.netlist.specs.Circuits.{netlistOf, Sized}
 use Rattle.gates.specs.Gates.{gateValue, shown}
-use Rattle.simulation.specs.Rows.{inputShown, inputValues, reads, gateNext, gatesNext, lineValues}
 use Rattle.netlist.specs.declared.Circuit.{Circuit}
 use Rattle.statements.specs.Items.{noGate}
 use Rattle.statements.specs.declared.Fault.{Fault}
 use Rattle.statements.specs.declared.Gate.{Gate}
+use Rattle.simulation.specs.Rows.{inputShown, inputValues, reads, gateNext, gatesNext, lineValues}
 
 module _ (f : Fault) (x : ℕ) where
   pub length-inputs : (n : ℕ) → length (inputValues f x n) ≡ n + 1

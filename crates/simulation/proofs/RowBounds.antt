@@ -17,10 +17,10 @@ use Rattle.integer.specs.Tab.{Within}
 use Rattle.integer.proofs.Bounds.{natAbs-sum, within-more}
 use Rattle.integer.proofs.Tabs.{length-tab, getD-tab}
 use Rattle.netlist.specs.Circuits.{Netlist}
-use Rattle.simulation.specs.Rows.{weighed, outputTerm, lineValues, rowValue, rowsOf, reads}
 use Rattle.netlist.specs.WellFormed.{WellFormed}
 use Rattle.statements.specs.Items.{noOutput}
 use Rattle.statements.specs.declared.Fault.{Fault}
+use Rattle.simulation.specs.Rows.{weighed, outputTerm, lineValues, rowValue, rowsOf, reads}
 
 pub weighed-le : (B : ℕ) (shows : Bool) (z : ℤ) → natAbs z ≤ B → natAbs (weighed shows z) ≤ B
 weighed-le B true z h = h

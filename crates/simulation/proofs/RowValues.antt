@@ -23,11 +23,11 @@ use Rattle.integer.proofs.Machine.{widens, recast}
 use Rattle.integer.proofs.Sums.{sum-ext}
 use Rattle.integer.proofs.Tabs.{tab-ext}
 use Rattle.netlist.specs.Circuits.{netlistOf, Sized}
-use Rattle.simulation.specs.Rows.{outputTerm, lineValues, rowValue, rowsOf}
-use Rattle.simulation.specs.Steps.{Columns, readTerm, readSum}
 use Rattle.netlist.specs.declared.Circuit.{Circuit}
 use Rattle.statements.specs.Items.{noOutput}
 use Rattle.statements.specs.declared.Fault.{Fault}
+use Rattle.simulation.specs.Rows.{outputTerm, lineValues, rowValue, rowsOf}
+use Rattle.simulation.specs.Steps.{Columns, readTerm, readSum}
 use Rattle.simulation.proofs.Columns.{slot-shows}
 use Rattle.simulation.proofs.LineValues.{lines-few}
 

@@ -13,8 +13,8 @@ use Rattle.integer.specs.Sum.{sumTo}
 use Rattle.statements.specs.Items.{noOutput}
 use Rattle.statements.specs.declared.Fault.{Fault}
 use Rattle.statements.specs.declared.Output.{Output}
-use Rattle.simulation.specs.Rows.{inputValues, reads, weighed}
 use Rattle.gates.specs.Steps.{shownAt}
+use Rattle.simulation.specs.Rows.{inputValues, reads, weighed}
 
 -- line values of the row x are `lines x`; a line behind the last shows 0
 pub record Columns (values : List Bool) (n : ℕ) (lines : ℕ → List Bool) : Type 0 where

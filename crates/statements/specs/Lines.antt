@@ -7,15 +7,15 @@ use mathlib.Core.List.{List}
 use lib.Dec.{eqb, leb, ltb}
 use lib.IntN.{pos}
 use Rattle.text.specs.Text.{bytesOf, fieldOf, fieldCount}
+use Rattle.kinds.specs.declared.Kind.{Kind}
+use Rattle.kinds.specs.declared.Kind.the-variants.{And, Or, Nand, Nor, Xor, Xnor, Not}
+use Rattle.fields.specs.Fields.{fits, inRange, isLine, unless, valueAt}
+use Rattle.kinds.specs.Kinds.{isKind, kindOf}
 use Rattle.statements.specs.declared.Fault.{Fault}
 use Rattle.statements.specs.declared.Gate.{Gate}
 use Rattle.statements.specs.declared.Head.{Head}
-use Rattle.kinds.specs.declared.Kind.{Kind}
-use Rattle.kinds.specs.declared.Kind.the-variants.{And, Or, Nand, Nor, Xor, Xnor, Not}
 use Rattle.statements.specs.declared.Output.{Output}
 use Rattle.statements.specs.declared.Pair.{Pair}
-use Rattle.fields.specs.Fields.{fits, inRange, isLine, unless, valueAt}
-use Rattle.kinds.specs.Kinds.{isKind, kindOf}
 
 abbrev pub circuitWord : List ℕ
 circuitWord = bytesOf "circuit"

@@ -5,7 +5,7 @@
 use fields::number_unless;
 use kinds::Kind;
 ghost use mathlib.Core.Path.{_≡_};
-ghost use Prim.Native.Nat.{suc, _-_, _≤_};
+ghost use Prim.Native.Nat.{suc, _≤_};
 ghost use Rattle.fields.specs.Fields.{valueAt};
 ghost use Rattle.statements.specs.Lines.{headRefusal, headOf, secondFits, gateRefusal, gateOf, outputRefusal, outputOf, isFault, pairInRange, faultRefusal, faultOf};
 
@@ -22,7 +22,7 @@ pub struct Output {
     pub weight: i16,
 }
 
-// A stuck line; line 0 is none.
+// LINE,VALUE: a stuck line and the value that it shows; line 0 is none.
 pub struct Pair {
     pub line: u16,
     pub value: bool,
@@ -64,7 +64,7 @@ pub struct FaultLine {
     pub fault: Fault,
 }
 
-// LINE,VALUE
+// LINE,VALUE as the fields have them.
 struct PairFields {
     line: u16,
     value: u16,

@@ -4,7 +4,7 @@
 --   twice                  applied twice it gives 2 ^ k times the values
 use mathlib.Core.Path.{_≡_, sym, ap, ap₂, _∙_}
 use mathlib.Core.Logic.{⊎-elim}
-use Prim.Native.Nat.{ℕ, zero, suc, _+_, _*_, _%_, _^_, _<_}
+use Prim.Native.Nat.{ℕ, zero, suc, _+_, _%_, _^_, _<_}
 use native.Mathlib.Omega.{arith}
 use lib.IntN.{ℤ, pos, _+ℤ_, _-ℤ_, _*ℤ_, negℤ, +ℤ-idl}
 use lib.Bits.{bitAnd, and-lt}
@@ -44,12 +44,12 @@ pub signed-sum-add : (n : ℕ) (f g : ℕ → ℤ) (l : ℕ) → signedSum n (λ
 unfolding signedSum termOf
 signed-sum-add n f g l = sums.sum-ext n _ _ (λ x b. sums.signed-add (sign l x) (f x) (g x)) ∙ sums.sum-add n _ _
 
-sum-neg : (n : ℕ) (f : ℕ → ℤ) (l : ℕ) → signedSum n (λ x. negℤ (f x)) l ≡ negℤ (signedSum n f l)
+signed-sum-neg : (n : ℕ) (f : ℕ → ℤ) (l : ℕ) → signedSum n (λ x. negℤ (f x)) l ≡ negℤ (signedSum n f l)
 unfolding signedSum termOf
-sum-neg n f l = sums.sum-ext n _ _ (λ x b. sums.signed-neg (sign l x) (f x)) ∙ sums.sum-neg n _
+signed-sum-neg n f l = sums.sum-ext n _ _ (λ x b. sums.signed-neg (sign l x) (f x)) ∙ sums.sum-neg n _
 
 pub sum-sub : (n : ℕ) (f g : ℕ → ℤ) (l : ℕ) → signedSum n (λ x. f x -ℤ g x) l ≡ signedSum n f l -ℤ signedSum n g l
-sum-sub n f g l = signed-sum-add n f (λ x. negℤ (g x)) l ∙ ap (λ (z : ℤ). signedSum n f l +ℤ z) (sum-neg n g l)
+sum-sub n f g l = signed-sum-add n f (λ x. negℤ (g x)) l ∙ ap (λ (z : ℤ). signedSum n f l +ℤ z) (signed-sum-neg n g l)
 
 pub signed-sum-scale : (d n : ℕ) (f : ℕ → ℤ) (l : ℕ) → signedSum n (λ x. pos d *ℤ f x) l ≡ pos d *ℤ signedSum n f l
 unfolding signedSum termOf

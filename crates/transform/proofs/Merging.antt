@@ -17,9 +17,9 @@ use Rattle.integer.specs.Sum.{sumTo}
 use Rattle.integer.specs.Tab.{tab, nth, Within}
 use Rattle.integer.proofs.Bounds.{within-take, within-drop, within-append, within-more}
 use Rattle.integer.proofs.Tabs.{tab-ext, tab-split}
+use Rattle.integer.proofs.Halves.{double}
 use Rattle.transform.specs.Spectrum.{termOf, signedSum, coefficientOf, spectrumOf}
 use Rattle.transform.specs.Steps.{halvesMixed}
-use Rattle.integer.proofs.Halves.{double}
 use Rattle.transform.proofs.Halving.{sum-low, sum-high, sum-equal, upper}
 use Rattle.transform.proofs.Spectra.{length-spectrum, nth-spectrum, spectrum-tab, within-spectrum}
 

@@ -20,13 +20,14 @@ use Rattle.integer.proofs.Group.{mul-cancel}
 use Rattle.integer.proofs.Tabs.{length-tab, getD-tab, tab-ext, tab-nth}
 use Rattle.transform.specs.Spectrum.{signedSum, spectrumOf}
 use Rattle.screen.specs.Answers.{answerNumber, andThen, refuseIf, minus, outside, inputsOf, screenOf}
-use Rattle.walsh.specs.Lists.{spectrumAnswer, unfit, unfitAt, firstUnfit, dividedAnswer, quotientOf, quotientAt, quotientsOf, inverseRows, rowsAnswer}
 use Rattle.screen.specs.declared.Answer.{Answer}
 use Rattle.screen.specs.declared.Answer.the-variants.{Done}
 use Rattle.transform.proofs.Halving.{sum-equal, signed-sum-scale, twice}
-use Rattle.walsh.proofs.Quotients.{unfit-whole, unfit-divides, unfit-inside, divided-done, done-divided}
 use Rattle.screen.proofs.Screens.{Screened, first-passed, screen-done, done-screen, screened-within, within-screened, inputs-power, inputs-most, outside-small, small-outside}
 use Rattle.transform.proofs.Spectra.{length-spectrum, nth-spectrum, spectrum-rule, within-spectrum}
+use Rattle.results.specs.Quotients.{unfit, unfitAt, firstUnfit, dividedAnswer, quotientOf, quotientAt, quotientsOf}
+use Rattle.results.proofs.Quotients.{unfit-whole, unfit-divides, unfit-inside, divided-done, done-divided}
+use Rattle.walsh.specs.Lists.{spectrumAnswer, inverseRows, rowsAnswer}
 
 -- The sums of a spectrum's coefficients are 2 ^ k times the rows.
 
@@ -96,11 +97,11 @@ module _ (c : List ℤ) (k : ℕ) (size : length c ≡ 2 ^ k) (fits : (x : ℕ) 
 
 -- The calls.
 
-abbrev screened : List ℤ → ℕ → Answer
-screened c room = screenOf (minus 2048000) (pos 2048000) true c room (length c)
+abbrev rowsScreen : List ℤ → ℕ → Answer
+rowsScreen c room = screenOf (minus 2048000) (pos 2048000) true c room (length c)
 
 -- what the tests before 11 tell
-module _ (c : List ℤ) (room : ℕ) (passed : screened c room ≡ Done) where
+module _ (c : List ℤ) (room : ℕ) (passed : rowsScreen c room ≡ Done) where
   tests : Screened (minus 2048000) (pos 2048000) true c room (length c)
   tests = screen-done (minus 2048000) (pos 2048000) true c room (length c) passed
 
@@ -178,7 +179,7 @@ undo rows room e = (answer-is (spectrumOf rows) room passed ∙ rows-done (spect
     few : length rows * 1000 ≤ 2048000
     few = let m : 2 ^ inputsOf (length rows) ≤ 2 ^ 11 = pow-mono {j = 11} (inputs-most (length rows)) in omega (arith, size-of)
 
-    passed : screened (spectrumOf rows) room ≡ Done
+    passed : rowsScreen (spectrumOf rows) room ≡ Done
     passed =
         let n = length-spectrum rows in
         done-screen (minus 2048000) (pos 2048000) true (spectrumOf rows) room (length (spectrumOf rows)) (record {
@@ -193,8 +194,8 @@ pub redo : (c : List ℤ) (room : ℕ) → rowsAnswer c room ≡ Done → (spect
 unfolding spectrumAnswer rowsAnswer
 redo c room e = (taken, met .1)
   where
-    passed : screened c room ≡ Done
-    passed = first-passed (screened c room) (dividedAnswer (length c) (minus 1000) (pos 1000) (spectrumOf c)) e
+    passed : rowsScreen c room ≡ Done
+    passed = first-passed (rowsScreen c room) (dividedAnswer (length c) (minus 1000) (pos 1000) (spectrumOf c)) e
 
     known : Screened (minus 2048000) (pos 2048000) true c room (length c)
     known = tests c room passed

@@ -1,4 +1,5 @@
--- The answer of the call for one coefficient.
+-- The answer of the call for one coefficient, by document 01's order for calls on lists: "Calls on lists test 9, 12, 10, 8, 11." It lends no result,
+-- so 8 and 11 cannot come.
 use Prim.Native.Nat.{ℕ}
 use mathlib.Core.List.{List}
 use lib.IntN.{ℤ, pos}

@@ -1,3 +1,2 @@
 pub mod Coefficients
 pub mod Lists
-pub mod Results

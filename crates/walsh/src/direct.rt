@@ -5,8 +5,8 @@ ghost use mathlib.Core.Path.{_≡_};
 ghost use Prim.Native.Nat.{_≤_};
 ghost use lib.ListN.{length};
 ghost use Rattle.integer.specs.Tab.{Within};
-ghost use Rattle.walsh.specs.Coefficients.{foundOf};
 ghost use Rattle.transform.specs.Spectrum.{coefficientOf};
+ghost use Rattle.walsh.specs.Coefficients.{foundOf};
 
 // The signed sum of the rows: the count of ones of label AND row decides the sign of each term.
 fn signed_sum(rows: &[i32], label: u32) -> i32

@@ -4,16 +4,10 @@
 // leaves the lent result as it was.
 mod direct;
 mod lists;
-mod work;
 
 pub use direct::coefficient;
 pub use lists::rows;
 pub use lists::spectrum;
-
-// Leaves for crates of this repository, with a `requires`: no calls of the papers.
-pub use work::divided;
-pub use work::narrow;
-pub use work::widen;
 
 // What the call for one coefficient answers.
 pub enum Found {

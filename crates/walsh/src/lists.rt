@@ -1,15 +1,15 @@
 // Rows to their spectrum, and a spectrum to its rows.
-use crate::work;
 use screen::Answer;
 ghost use mathlib.Core.Path.{_≡_};
 ghost use Prim.Native.Nat.{_^_, _≤_};
 ghost use lib.IntN.{pos};
 ghost use lib.ListN.{length};
 ghost use Rattle.integer.specs.Tab.{Within};
-ghost use Rattle.walsh.specs.Results.{leaves, written};
 ghost use Rattle.screen.specs.Answers.{minus};
-ghost use Rattle.walsh.specs.Lists.{spectrumAnswer, rowsAnswer, inverseRows, dividedAnswer};
 ghost use Rattle.transform.specs.Spectrum.{spectrumOf};
+ghost use Rattle.results.specs.Results.{leaves, written};
+ghost use Rattle.results.specs.Quotients.{dividedAnswer};
+ghost use Rattle.walsh.specs.Lists.{spectrumAnswer, rowsAnswer, inverseRows};
 
 // The spectrum of `rows` to the front of `out`, by way of as many working numbers.
 fn spectrum_by(rows: &[i32], inputs: u32, work: &mut [i64], out: &mut [i32])
@@ -18,9 +18,9 @@ fn spectrum_by(rows: &[i32], inputs: u32, work: &mut [i64], out: &mut [i32])
     requires { ⌜ (length (now work) ≡ length (now rows)) × (length (now rows) ≤ length (now out)) ⌝ }
     ensures { λ _. ⌜ now (out .exit) ≡ written (spectrumOf (now (rows .entry))) (now (out .entry)) ⌝ }
 {
-    work::widen(rows, work);
+    results::widen(rows, work);
     transform::transform(work, inputs);
-    work::narrow(work, out);
+    results::narrow(work, out);
 }
 
 // The spectrum of rows from -1,000 to 1,000, written to the front of `out`; or 9, 10, 8.
@@ -47,9 +47,9 @@ fn rows_by(coefficients: &[i32], inputs: u32, work: &mut [i64], out: &mut [i32])
     ensures { λ r. ⌜ r ≡ dividedAnswer (length (now (coefficients .entry))) (minus 1000) (pos 1000) (spectrumOf (now (coefficients .entry))) ⌝ }
     ensures { λ r. ⌜ now (out .exit) ≡ leaves r (inverseRows (now (coefficients .entry))) (now (out .entry)) ⌝ }
 {
-    work::widen(coefficients, work);
+    results::widen(coefficients, work);
     transform::transform(work, inputs);
-    work::divided(work, coefficients.len(), -1000, 1000, out)
+    results::divided(work, coefficients.len(), -1000, 1000, out)
 }
 
 // The rows from -1,000 to 1,000 that have this spectrum, written to the front of `out`; or 9, 10, 8, 11.

@@ -19,8 +19,8 @@ use borrow.Author.Tests.{lt-ltb, le-ltb, eq-eqb, ne-eqb, leb-true}
 use Rattle.integer.proofs.Bools.{both}
 use Rattle.integer.specs.Tab.{nth}
 use Rattle.text.specs.Text.{comma, lineEnd, indexOf, before, after, hasByte, fieldOf, fieldCount, digits, numberOf}
-use Rattle.writing.specs.Writing.{decimalOf, minusSign, integerOf, gather, numberField, numbersOf, lineOf}
 use Rattle.text.specs.declared.Number.the-variants.{Value}
+use Rattle.writing.specs.Writing.{decimalOf, minusSign, integerOf, gather, numberField, numbersOf, lineOf}
 use Rattle.writing.proofs.ReadBack.{digits-only, read-back}
 use Rattle.writing.proofs.Writings.{unsigned, natural-length, gather-length, line-long}
 

@@ -11,8 +11,8 @@ use lib.Dec.{ltb, leb, eqb}
 use lib.ListN.{length, getD}
 use borrow.Author.Tests.{ltb-true, ltb-false, le-leb, ne-eqb}
 use Rattle.text.specs.Text.{digits, decimalFrom, wellFormed, numberOf}
-use Rattle.writing.specs.Writing.{decimalDigit, decimalTo, decimalOf}
 use Rattle.text.specs.declared.Number.the-variants.{Value}
+use Rattle.writing.specs.Writing.{decimalDigit, decimalTo, decimalOf}
 use Rattle.writing.proofs.Writings.{tenth, decimal-length}
 
 from-last : (v x : ℕ) (l : List ℕ) → decimalFrom v (l ++ (x ∷ [])) ≡ decimalFrom v l * 10 + (x - 48)

@@ -9,12 +9,12 @@ use lib.ListN.{length}
 use Rattle.integer.proofs.Tabs.{length-mapped}
 use Rattle.netlist.specs.Circuits.{netlistOf}
 use Rattle.simulation.specs.Rows.{rowsOf}
-use Rattle.walsh.specs.Results.{leaves}
+use Rattle.results.specs.Results.{leaves}
 use Rattle.transform.specs.Spectrum.{spectrumOf}
-use Rattle.circuit.specs.CircuitCall.{faultSpectrum}
 use Rattle.netlist.proofs.Acceptance.{accepted-right}
 use Rattle.simulation.proofs.RowBounds.{rows-in-range}
 use Rattle.statements.specs.declared.Fault.{Fault}
+use Rattle.circuit.specs.CircuitCall.{faultSpectrum}
 use Rattle.circuit.proofs.CircuitLaws.{text-stop, fault-stop, served, served-spectrum}
 use Rattle.circuit.proofs.circuit_spectrum.Statement.{statement}
 use Rattle.circuit.proofs.circuit_spectrum.Tie as tie

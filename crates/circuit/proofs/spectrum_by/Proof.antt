@@ -8,7 +8,7 @@ use lib.ListN.{length}
 use Rattle.netlist.specs.Circuits.{netlistOf}
 use Rattle.simulation.specs.Rows.{rowsOf}
 use Rattle.simulation.proofs.RowBounds.{length-rows}
-use Rattle.walsh.specs.Results.{leaves}
+use Rattle.results.specs.Results.{leaves}
 use Rattle.walsh.specs.Lists.{spectrumAnswer}
 use Rattle.transform.specs.Spectrum.{spectrumOf}
 use Rattle.circuit.proofs.CircuitLaws.{spectrum-room}

@@ -12,9 +12,9 @@ use lib.Pow.{pow-pos, pow-mono}
 use lib.Seq.{length-take-le}
 use Rattle.integer.specs.Tab.{Within}
 use Rattle.integer.proofs.Machine.{bit-is}
-use Rattle.walsh.specs.Results.{leaves}
+use Rattle.results.specs.Results.{leaves}
 use Rattle.screen.specs.Answers.{minus, inputsOf}
-use Rattle.walsh.specs.Lists.{dividedAnswer, quotientsOf}
+use Rattle.results.specs.Quotients.{dividedAnswer, quotientsOf}
 use Rattle.faults.specs.Faults.{stuckSpectrumOf, risingInputs, linesAfter}
 use Rattle.faults.proofs.Arguments.{OpenedCall, opened-call, lines-after, rising-after}
 use Rattle.faults.proofs.Opening.{openedSums, opened-sums, sums-answer, sums-quotients}

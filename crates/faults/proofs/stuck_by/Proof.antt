@@ -9,7 +9,7 @@ use lib.IntN.{ℤ}
 use lib.ListN.{length}
 use Rattle.integer.specs.Tab.{Within}
 use Rattle.integer.proofs.Bounds.{within-more}
-use Rattle.walsh.specs.Results.{written}
+use Rattle.results.specs.Results.{written}
 use Rattle.screen.specs.Answers.{inputsOf}
 use Rattle.faults.specs.Faults.{Stuck, stuckOf, stuckSpectrumOf, risingInputs}
 use Rattle.faults.proofs.Arguments.{length-stuck-of}

@@ -2,8 +2,8 @@
 use borrow.Author.Needs.{needs}
 use mathlib.Core.Path.{_≡_, sym, ap}
 use mathlib.Core.Bool.{Bool, xor}
-use Rattle.gates.specs.Gates.{gateValue}
 use Rattle.kinds.specs.declared.Kind.{Kind}
+use Rattle.gates.specs.Gates.{gateValue}
 use Rattle.gates.proofs.gate_value.Statement.{statement}
 use Rattle.gates.proofs.gate_value.Tie as tie
 

@@ -8,7 +8,8 @@ use lib.Seq.{length-take-le}
 use Rattle.integer.specs.ListTests.{Below}
 use Rattle.netlist.specs.Circuits.{Netlist, netlistOf}
 use Rattle.planner.specs.PlanCall.{soundRows, faultedRows, verdictOf}
-use Rattle.report.specs.ReportCall.{refusedLine, planLines, verdictLines}
+use Rattle.report_lines.specs.ReportLines.{refusedLine, planLines}
+use Rattle.report.specs.ReportCall.{verdictLines}
 use Rattle.report.proofs.ReportLaws.{verdict-fitting, refused-by, planned-by, front-same}
 use Rattle.report.proofs.circuit_lines.Statement.{statement}
 use Rattle.report.proofs.circuit_lines.Tie as tie

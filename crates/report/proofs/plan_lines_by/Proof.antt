@@ -12,12 +12,12 @@ use Rattle.statements.specs.Items.{sound as unfaulted}
 use Rattle.writing.specs.Writing.{placed, gather}
 use Rattle.transform.specs.Spectrum.{spectrumOf}
 use Rattle.planner.specs.PlanCall.{soundRows, faultedRows}
-use Rattle.report.specs.ReportCall.{planLine, labelLine, faultReportLine}
 use Rattle.simulation.proofs.RowBounds.{rows-in-range}
 use Rattle.planner.proofs.FaultRows.{fault-count}
 use Rattle.netlist.proofs.Counts.{faults-counted}
+use Rattle.report_lines.specs.ReportLines.{planLine, labelLine, faultReportLine}
+use Rattle.report_lines.proofs.ReportLines.{spectrum-left, spectrum-ready, label-lines-same, plan-length, plan-read, read-room, read-written}
 use Rattle.report.proofs.ReportLaws.{labels-room, faults-room, plan-written}
-use Rattle.report.proofs.ReportLines.{spectrum-left, spectrum-ready, label-lines-same, plan-length, plan-read, read-room, read-written}
 use Rattle.report.proofs.plan_lines_by.Statement.{statement}
 use Rattle.report.proofs.plan_lines_by.Tie as tie
 

@@ -10,11 +10,11 @@ use lib.ListN.{length}
 use mir.Syntax.{w32}
 use mir.Val.{toZ, ofZ}
 use mir.ValLaws.{toZ-ofZ}
-use Rattle.integer.specs.Tab.{nth}
-use Rattle.screen.specs.Answers.{outsideAt}
 use native.Mathlib.Omega.{arith}
 use borrow.Author.Count.{below-more}
 use borrow.Author.Tests.{not-true}
+use Rattle.integer.specs.Tab.{nth}
+use Rattle.screen.specs.Answers.{outsideAt}
 use Rattle.screen.proofs.Screens.{outside-low, outside-high, outside-none, outside-back, found-outside, none-outside, any-all}
 use Rattle.screen.proofs.first_outside.Statement.{statement}
 use Rattle.screen.proofs.first_outside.Tie as tie

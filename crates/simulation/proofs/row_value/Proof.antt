@@ -12,8 +12,8 @@ use Rattle.integer.specs.Sum.{sumTo}
 use Rattle.integer.proofs.Machine.{reads-back, add-fits, add-is}
 use Rattle.integer.proofs.Tabs.{length-mapped}
 use Rattle.statements.specs.Items.{noOutput}
-use Rattle.simulation.specs.Rows.{weighed}
 use Rattle.gates.specs.Steps.{shownAt}
+use Rattle.simulation.specs.Rows.{weighed}
 use Rattle.simulation.specs.Steps.{readTerm, readSum}
 use Rattle.simulation.proofs.RowValues.{sum-room, sum-more, sum-small}
 use Rattle.simulation.proofs.row_value.Statement.{statement}

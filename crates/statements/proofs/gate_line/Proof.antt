@@ -1,8 +1,8 @@
 -- What the definition asks of the line is what was read and tested, in that order.
 use mathlib.Core.Path.{refl, sym}
 use borrow.Author.Needs.{needs}
-use Rattle.statements.specs.Lines.{gateRefusal, isGate, gateFits, readsBelow, gateOf}
 use Rattle.fields.specs.Fields.{fits}
+use Rattle.statements.specs.Lines.{gateRefusal, isGate, gateFits, readsBelow, gateOf}
 use Rattle.statements.proofs.gate_line.Statement.{statement}
 use Rattle.statements.proofs.gate_line.Tie as tie
 

@@ -1,8 +1,8 @@
 -- What the definition asks of the line is what was read and tested, in that order.
 use mathlib.Core.Path.{refl, sym}
 use borrow.Author.Needs.{needs}
-use Rattle.statements.specs.Lines.{headRefusal, isHead, headFits, headOf}
 use Rattle.fields.specs.Fields.{fits}
+use Rattle.statements.specs.Lines.{headRefusal, isHead, headFits, headOf}
 use Rattle.statements.proofs.head_line.Statement.{statement}
 use Rattle.statements.proofs.head_line.Tie as tie
 

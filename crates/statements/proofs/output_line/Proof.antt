@@ -4,8 +4,8 @@ use native.Mathlib.Omega.{arith}
 use mir.Syntax.{w16}
 use mir.ValLaws.{toZ-pos}
 use borrow.Author.Needs.{needs}
-use Rattle.statements.specs.Lines.{outputRefusal, isOutput, outputFits, outputOf}
 use Rattle.fields.specs.Fields.{fits}
+use Rattle.statements.specs.Lines.{outputRefusal, isOutput, outputFits, outputOf}
 use Rattle.statements.proofs.output_line.Statement.{statement}
 use Rattle.statements.proofs.output_line.Tie as tie
 

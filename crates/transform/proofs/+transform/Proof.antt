@@ -9,9 +9,9 @@ use native.Mathlib.Omega.{arith}
 use lib.IntN.{ℤ}
 use lib.ListN.{length}
 use lib.Seq.{length-take-le}
-use Rattle.transform.proofs.Merging.{single, Halved, halved, first-asks, second-asks, butterfly-asks, butterfly-leaves}
 use borrow.Fn.Kinds.{In}
 use borrow.Fn.PlainCycle.{Measures, is, falls, and}
+use Rattle.transform.proofs.Merging.{single, Halved, halved, first-asks, second-asks, butterfly-asks, butterfly-leaves}
 use Rattle.transform.proofs.transform.Reads as transform
 use Rattle.transform.proofs.transform.Kinds as transform-kinds
 use Rattle.transform.proofs.+transform.Lts-transform as lts

@@ -1,9 +1,9 @@
 use borrow.Author.Needs.{needs}
 use native.Mathlib.Omega.{arith}
 use Prim.Native.Nat.{ℕ, _<_}
-use Rattle.writing.proofs.Writings.{one-room, one-end, one-written, tenth-room, last-room, last-end, last-written}
 use borrow.Fn.Kinds.{In}
 use borrow.Fn.PlainCycle.{Measures, is, falls, and}
+use Rattle.writing.proofs.Writings.{one-room, one-end, one-written, tenth-room, last-room, last-end, last-written}
 use Rattle.writing.proofs.put_decimal.Reads as put-decimal
 use Rattle.writing.proofs.put_decimal.Kinds as put-decimal-kinds
 use Rattle.writing.proofs.+put_decimal.Lts-put_decimal as put-decimal-lts

@@ -3,10 +3,10 @@ use mathlib.Core.List.{List}
 use mathlib.Core.Path.{sym, ap, _∙_}
 use Prim.Native.Nat.{ℕ, _+_}
 use lib.ListN.{length}
+use borrow.Author.Needs.{needs}
 use Rattle.integer.proofs.Sizes.{sign-plain, size-plain}
 use Rattle.writing.specs.Writing.{placed, integerOf}
 use Rattle.writing.proofs.Writings.{sign-room, size-room, signed-end, signed-written, unsigned, length-placed}
-use borrow.Author.Needs.{needs}
 use Rattle.writing.proofs.put_integer.Statement.{statement}
 use Rattle.writing.proofs.put_integer.Tie as tie
 

@@ -5,10 +5,10 @@ use lib.Signed.{natAbs-le}
 use mir.Syntax.{w32}
 use mir.Val.{toZ, ofZ}
 use mir.ValLaws.{toZ-ofZ}
-use Rattle.writing.specs.Writing.{integerOf}
-use Rattle.writing.proofs.Writings.{integer-length}
 use native.Mathlib.Omega.{arith}
 use borrow.Author.Needs.{needs}
+use Rattle.writing.specs.Writing.{integerOf}
+use Rattle.writing.proofs.Writings.{integer-length}
 use Rattle.cases.proofs.lines.put_number.Statement.{statement}
 use Rattle.cases.proofs.lines.put_number.Tie as tie
 

@@ -6,11 +6,11 @@ use Prim.Native.Nat.{_-_, _<_, _≤_}
 use lib.ListN.{length, length-set, getD}
 use mir.Syntax.{w64}
 use mir.Val.{SFits}
-use Rattle.integer.specs.Tab.{tab, nth}
-use Rattle.cover.specs.Steps.{bitAddedAt, bitAdded}
-use Rattle.integer.proofs.Tabs.{filled}
-use Rattle.cover.proofs.Marking.{added-to, read-mask, bit-more, bit-kept}
 use native.Mathlib.Omega.{arith}
+use Rattle.integer.specs.Tab.{tab, nth}
+use Rattle.integer.proofs.Tabs.{filled}
+use Rattle.cover.specs.Steps.{bitAddedAt, bitAdded}
+use Rattle.cover.proofs.Marking.{added-to, read-mask, bit-more, bit-kept}
 use Rattle.cover.proofs.marks.add_marks.Statement.{statement}
 use Rattle.cover.proofs.marks.add_marks.Tie as tie
 

@@ -4,10 +4,10 @@ use mathlib.Core.Path.{_≡_, refl, ap, _∙_}
 use mathlib.Core.List.{List, _++_}
 use Prim.Native.Nat.{ℕ, _-_, _≤_}
 use lib.ListN.{length, length-set, drop, set}
+use native.Mathlib.Omega.{arith}
 use Rattle.integer.specs.Tab.{tab}
 use Rattle.integer.proofs.Tabs.{filled, tab-step}
 use Rattle.cover.proofs.Marking.{no-mask, all-none}
-use native.Mathlib.Omega.{arith}
 use Rattle.cover.proofs.marks.clear.Statement.{statement}
 use Rattle.cover.proofs.marks.clear.Tie as tie
 

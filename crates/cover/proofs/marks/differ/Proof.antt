@@ -7,6 +7,7 @@ use lib.IntN.{ℤ}
 use lib.ListN.{length, length-set, drop}
 use mir.Syntax.{w32, w64}
 use mir.Val.{SFits}
+use native.Mathlib.Omega.{arith}
 use Rattle.integer.specs.Tab.{tab, nth}
 use Rattle.integer.specs.Counting.{allBelow}
 use Rattle.integer.proofs.Machine.{widens}
@@ -15,7 +16,6 @@ use Rattle.integer.proofs.Differing.{less-fits, less-kept, less-none}
 use Rattle.integer.proofs.NumbersBelow.{all-more}
 use Rattle.cover.specs.Cover.{sameAt, silent}
 use Rattle.cover.specs.Steps.{rowDifferenceAt, differences}
-use native.Mathlib.Omega.{arith}
 use Rattle.cover.proofs.marks.differ.Statement.{statement}
 use Rattle.cover.proofs.marks.differ.Tie as tie
 

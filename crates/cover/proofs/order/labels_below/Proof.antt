@@ -4,10 +4,10 @@ use mathlib.Core.Path.{_≡_, ap, ap₂, _∙_}
 use mathlib.Core.Logic.{⊎-elim}
 use Prim.Native.Nat.{_-_, _≤_}
 use lib.ListN.{length, length-set, take}
+use native.Mathlib.Omega.{arith}
 use Rattle.integer.specs.ListTests.{keep}
 use Rattle.cover.proofs.LabelOrder.{order-length, order-below, labels-to, listed, label-passed, all-listed}
 use Rattle.cover.proofs.Table.{labelTable, table-at}
-use native.Mathlib.Omega.{arith}
 use Rattle.cover.proofs.order.labels_below.Statement.{statement}
 use Rattle.cover.proofs.order.labels_below.Tie as tie
 

@@ -10,8 +10,8 @@ use Rattle.cover.specs.Steps.{masksOf}
 use Rattle.integer.proofs.Tabs.{length-mapped}
 use Rattle.netlist.specs.Circuits.{netlistOf}
 use Rattle.simulation.specs.Rows.{rowsOf}
-use Rattle.planner.specs.PlanCall.{soundRows, faultedRows}
 use Rattle.netlist.proofs.Counts.{faults-counted}
+use Rattle.planner.specs.PlanCall.{soundRows, faultedRows}
 use Rattle.planner.proofs.PlanLaws.{MarkedBelow, Turn, marked-none, marked-silent, marked-one-more, marked-all, may-mark}
 use Rattle.planner.proofs.plan_call.mark_faults.Statement.{statement}
 use Rattle.planner.proofs.plan_call.mark_faults.Tie as tie

@@ -2,8 +2,8 @@
 use borrow.Author.Needs.{needs}
 use denote.Ref.{now}
 use lib.ListN.{length}
-use Rattle.planner.specs.PlanCall.{planAnswer}
 use Rattle.netlist.proofs.Acceptance.{accepted-right}
+use Rattle.planner.specs.PlanCall.{planAnswer}
 use Rattle.planner.proofs.PlanLaws.{verdict-text, verdict-room, verdict-served, kept}
 use Rattle.planner.proofs.plan_call.plan.Statement.{statement}
 use Rattle.planner.proofs.plan_call.plan.Tie as tie

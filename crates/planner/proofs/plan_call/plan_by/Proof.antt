@@ -7,8 +7,8 @@ use lib.ListN.{length}
 use Rattle.integer.proofs.Tabs.{length-mapped}
 use Rattle.netlist.specs.Circuits.{netlistOf}
 use Rattle.simulation.specs.Rows.{rowsOf}
-use Rattle.planner.specs.PlanCall.{planNumbers}
 use Rattle.netlist.proofs.Counts.{faults-counted}
+use Rattle.planner.specs.PlanCall.{planNumbers}
 use Rattle.planner.proofs.PlanLaws.{AllMarked, first-silent-count, may-find, verdict-silent, verdict-none, verdict-found}
 use Rattle.planner.proofs.plan_call.plan_by.Statement.{statement}
 use Rattle.planner.proofs.plan_call.plan_by.Tie as tie

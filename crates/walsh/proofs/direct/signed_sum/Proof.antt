@@ -6,10 +6,10 @@ use lib.ListN.{length}
 use mir.Syntax.{w32}
 use mir.Val.{toZ, ofZ}
 use mir.ValLaws.{toZ-ofZ}
-use Rattle.integer.specs.Tab.{nth}
-use Rattle.transform.specs.Spectrum.{signedSum, coefficientOf}
 use native.Mathlib.Omega.{arith}
 use mathlib.Core.Logic.{⊎-elim}
+use Rattle.integer.specs.Tab.{nth}
+use Rattle.transform.specs.Spectrum.{signedSum, coefficientOf}
 use Rattle.integer.specs.Sum.{sumTo}
 use Rattle.integer.proofs.Bounds.{sfits-abs}
 use Rattle.integer.proofs.Machine.{add-is, sub-is, add-fits, sub-fits}

@@ -7,11 +7,12 @@ use lib.IntN.{pos}
 use lib.ListN.{length}
 use lib.Seq.{length-take-le}
 use Rattle.screen.specs.Answers.{andThen, minus, screenOf}
-use Rattle.walsh.specs.Lists.{dividedAnswer, rowsAnswer}
 use Rattle.transform.specs.Spectrum.{spectrumOf}
 use Rattle.screen.specs.declared.Answer.{Answer}
 use Rattle.screen.specs.declared.Answer.the-variants.{Done}
 use Rattle.screen.proofs.Screens.{Ready, ready}
+use Rattle.results.specs.Quotients.{dividedAnswer}
+use Rattle.walsh.specs.Lists.{rowsAnswer}
 use Rattle.walsh.proofs.lists.rows.Statement.{statement}
 use Rattle.walsh.proofs.lists.rows.Tie as tie
 

@@ -8,12 +8,13 @@ use lib.IntN.{ℤ, pos}
 use lib.ListN.{length}
 use lib.Pow.{pow-pos}
 use Rattle.integer.specs.Tab.{Within}
-use Rattle.walsh.specs.Results.{leaves}
 use Rattle.screen.specs.Answers.{minus}
-use Rattle.walsh.specs.Lists.{dividedAnswer, quotientsOf, inverseRows}
 use Rattle.transform.specs.Spectrum.{spectrumOf}
 use Rattle.transform.proofs.Spectra.{length-spectrum}
 use Rattle.screen.proofs.Screens.{power-few}
+use Rattle.results.specs.Results.{leaves}
+use Rattle.results.specs.Quotients.{dividedAnswer, quotientsOf}
+use Rattle.walsh.specs.Lists.{inverseRows}
 use Rattle.walsh.proofs.lists.rows_by.Statement.{statement}
 use Rattle.walsh.proofs.lists.rows_by.Tie as tie
 

@@ -7,9 +7,9 @@ use lib.IntN.{pos}
 use lib.ListN.{length}
 use lib.Seq.{length-take-le}
 use Rattle.screen.specs.Answers.{minus, screenOf}
-use Rattle.walsh.specs.Lists.{spectrumAnswer}
 use Rattle.screen.specs.declared.Answer.the-variants.{Done}
 use Rattle.screen.proofs.Screens.{Ready, ready}
+use Rattle.walsh.specs.Lists.{spectrumAnswer}
 use Rattle.walsh.proofs.lists.spectrum.Statement.{statement}
 use Rattle.walsh.proofs.lists.spectrum.Tie as tie
 

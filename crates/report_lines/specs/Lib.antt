@@ -1,0 +1,2 @@
+pub mod ReportLines
+pub mod Steps

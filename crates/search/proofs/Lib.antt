@@ -1,0 +1,5 @@
+pub mod Clearing
+pub mod Pruning
+pub mod Searching
+pub mod Sets
+pub mod SetsBySize
