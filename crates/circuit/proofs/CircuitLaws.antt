@@ -1,30 +1,34 @@
 -- The circuit call:
 --   coefficients-bounded    every coefficient of an accepted circuit, sound or under a fault, is from -15,360 to 15,360
 --   spectrum-room           the list call on such rows refuses by 8 only
+--   circuit-done            number 0 only where the call is done
 --   text-stop, fault-stop, served    the call's answer and what it leaves, by the parser's answer
 use mathlib.Core.Path.{_≡_, refl, sym, ap, _∙_}
+use mathlib.Core.Bool.{Bool, true, false}
 use mathlib.Core.List.{List}
 use Prim.Native.Nat.{ℕ, _^_, _<_, _≤_}
 use native.Mathlib.Nat.{mul-le-mul, le-refl}
 use native.Mathlib.Omega.{arith}
 use lib.IntN.{ℤ}
 use lib.ListN.{length}
+use lib.Dec.{ltb}
 use borrow.Author.Tests.{lt-ltb, le-ltb, ne-eqb}
 use Rattle.integer.specs.Tab.{Within}
 use Rattle.integer.proofs.Bounds.{within-more}
 use Rattle.netlist.specs.Circuits.{Netlist, netlistOf, Sized, faultAt}
-use Rattle.netlist.specs.Parsing.{accepted, parseOf, meaning}
+use Rattle.netlist.specs.Parsing.{Parse, accepted, rejected, parseOf, meaning, onParse}
 use Rattle.simulation.specs.Rows.{rowsOf}
 use Rattle.netlist.specs.WellFormed.{WellFormed}
 use Rattle.netlist.specs.declared.Parsed.{Parsed}
 use Rattle.netlist.proofs.Acceptance.{well-formed, accepted-as}
 use Rattle.netlist.proofs.Assembling.{meant}
+use Rattle.netlist.proofs.Refusals.{number-some}
 use Rattle.simulation.proofs.RowBounds.{rows-few, rows-bounded}
 use Rattle.statements.specs.declared.Fault.{Fault}
-use Rattle.screen.specs.Answers.{screenOf, inputsOf}
+use Rattle.screen.specs.Answers.{answerNumber, refuseIf, screenOf, inputsOf}
 use Rattle.walsh.specs.Lists.{spectrumAnswer}
 use Rattle.transform.specs.Spectrum.{spectrumOf}
-use Rattle.screen.specs.declared.Answer.the-variants.{Refused}
+use Rattle.screen.specs.declared.Answer.the-variants.{Done, Refused}
 use Rattle.screen.proofs.Screens.{inputs-is, within-screened}
 use Rattle.transform.proofs.Spectra.{within-spectrum}
 use Rattle.netlist.proofs.Counts.{faults-counted}
@@ -45,6 +49,22 @@ spectrum-room rows k room low high e w =
     let sized : inputsOf (length rows) ≡ k = ap inputsOf e ∙ inputs-is k (omega arith) (omega arith) in
     let some : inputsOf (length rows) ≡ 0 → ⊥ = λ z. omega (arith, sized) in
     rw (ne-eqb (inputsOf (length rows)) 0 some, le-ltb _ (length rows) (within-screened 1000 rows w), e)
+
+-- ---- when the call is done
+
+module _ (text : List ℕ) (fault room : ℕ) where
+  pub circuit-done : answerNumber (circuitAnswer text fault room) ≡ 0 → circuitAnswer text fault room ≡ Done
+  unfolding circuitAnswer faultAnswer roomAnswer
+  circuit-done z = go (parseOf text) refl z
+    where
+      tests : (a b : Bool) → answerNumber (refuseIf a 12 0 (refuseIf b 8 0 Done)) ≡ 0 → refuseIf a 12 0 (refuseIf b 8 0 Done) ≡ Done
+      tests true b z = absurd (omega (arith, z))
+      tests false true z = absurd (omega (arith, z))
+      tests false false z = refl
+
+      go : (p : Parse) → parseOf text ≡ p → answerNumber (onParse (faultAnswer fault room) Refused p) ≡ 0 → onParse (faultAnswer fault room) Refused p ≡ Done
+      go (accepted n) e z = tests (ltb (length (n .faults)) fault) (ltb room (2 ^ n .inputs)) z
+      go (rejected number place) e z = absurd (number-some text number place e z)
 
 -- by the parser's answer p
 module _ (text : List ℕ) (fault room : ℕ) (p : Parsed) (means : meaning p ≡ parseOf text) where

@@ -24,7 +24,7 @@ use Rattle.transform.specs.Spectrum.{coefficientOf, spectrumOf}
 use Rattle.faults.specs.Faults.{stuckOf, stuckAnswer, stuckSpectrumOf, stuckRows, keptInputs, openedAnswer, openedSpectrumOf, openedRows}
 use Rattle.walsh.specs.declared.Found.the-variants.{Coefficient}
 use Rattle.examples.specs.Functions.{figure, productOrInput, selected, gated, gatedOpened}
-use Rattle.examples.specs.Texts.{productOrInputText, gatedText, listing, listingReport, silentText, silentReport, pairText, halfAndOneText}
+use Rattle.examples.specs.Texts.{productOrInputText, gatedText, listing, listingReport, silentText, silentReport, pairText, andOrText, xorNotText, halfAndOneText}
 
 pub data Case : Type 0 where
   -- rows and their whole spectrum
@@ -153,6 +153,9 @@ table =
     -- "faults 3 at 1 and 4 at 1: 14. With cap 2: labels 1 and 2."
     ∷ noPlan (pairText "circuit,2,4,2,2,1") 14 0
     ∷ plan (pairText "circuit,2,4,2,2,2") (1 ∷ 2 ∷ [])
+    -- each kind of gate: rows 0, x1, x2 and both are 12, 6, 6, 3 (and 1, or 2, nand 4, nor 8), and 6, 1, 5, 2 (xor 1, xnor 2, not x1 4)
+    ∷ circuit andOrText 0 (pos 27 ∷ pos 9 ∷ pos 9 ∷ pos 3 ∷ [])
+    ∷ circuit xorNotText 0 (pos 14 ∷ pos 8 ∷ pos 0 ∷ pos 2 ∷ [])
     -- 129 ones in 256 rows are 0.50390625, and 128 are 0.5
     ∷ reading halfAndOneText 0 0 (Syndrome (plus 50390625 8))
     ∷ compares halfAndOneText 1 0 0 (plus 50390625 8) (plus 5 1) (plus 390625 8)

@@ -95,3 +95,32 @@ halfAndOneText =
     ∷ "output,15,1"
     ∷ "fault,14,0"
     ∷ [])
+
+-- "Gates have their usual truth values": each kind of gate on x1 and x2, an output of its own weight
+unfoldable pub andOrText : List ℕ
+andOrText =
+    textOfLines
+    ("circuit,2,4,4,1,1"
+    ∷ "gate,and,1,2"
+    ∷ "gate,or,1,2"
+    ∷ "gate,nand,1,2"
+    ∷ "gate,nor,1,2"
+    ∷ "output,3,1"
+    ∷ "output,4,2"
+    ∷ "output,5,4"
+    ∷ "output,6,8"
+    ∷ "fault,1,0"
+    ∷ [])
+
+unfoldable pub xorNotText : List ℕ
+xorNotText =
+    textOfLines
+    ("circuit,2,3,3,1,1"
+    ∷ "gate,xor,1,2"
+    ∷ "gate,xnor,1,2"
+    ∷ "gate,not,1,0"
+    ∷ "output,3,1"
+    ∷ "output,4,2"
+    ∷ "output,5,4"
+    ∷ "fault,1,0"
+    ∷ [])

@@ -74,7 +74,7 @@ module _ (last n : ℕ) (lines : List ℕ) (i : ℕ) where
 
 -- What the tests mean.
 
-rising-parts : (last n i : ℕ) (rest : List ℕ) → risingInputs last n (i ∷ rest) ≡ true → (last < i) × (i ≤ n) × (risingInputs i n rest ≡ true)
+pub rising-parts : (last n i : ℕ) (rest : List ℕ) → risingInputs last n (i ∷ rest) ≡ true → (last < i) × (i ≤ n) × (risingInputs i n rest ≡ true)
 unfolding risingInputs
 rising-parts last n i rest e =
     let p = both (ltb last i) (leb i n && risingInputs i n rest) e in

@@ -1,4 +1,5 @@
 -- The opened-line call's refusal 11 (document 01: "11 is given exactly when a sum does not divide"):
+--   undivided-means, means-undivided    the test at a label says whether its sum divides
 --   undivided-exactly     where the earlier tests pass, 11 is given exactly when the sum over the opened lines at some label does not divide
 -- The fault calls on spectra of rows (document 01: "On a spectrum of rows both equal the sums of the faulted rows"):
 --   stuck-faulted         where the stuck-input call gives a result, it is the spectrum of the rows with the stuck inputs replaced
@@ -74,11 +75,11 @@ module _ (c : List ℤ) (values : List ℕ) where
   abbrev pub Undivided : ℕ → Type 0
   Undivided label = natAbs (openedSumAt c values label) % 2 ^ length values ≡ 0 → ⊥
 
-  undivided-means : (label : ℕ) → undividedAt c values label ≡ true → Undivided label
+  pub undivided-means : (label : ℕ) → undividedAt c values label ≡ true → Undivided label
   unfolding undividedAt
   undivided-means label t e = clash (sym t ∙ rw (eq-eqb _ 0 e))
 
-  means-undivided : (label : ℕ) → Undivided label → undividedAt c values label ≡ true
+  pub means-undivided : (label : ℕ) → Undivided label → undividedAt c values label ≡ true
   unfolding undividedAt
   means-undivided label n = rw (ne-eqb (natAbs (openedSumAt c values label) % 2 ^ length values) 0 n)
 

@@ -1,4 +1,5 @@
 pub mod Arguments
+pub mod ArgumentsMean
 pub mod Digits
 pub mod Faulted
 pub mod OneStuck

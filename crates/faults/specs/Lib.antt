@@ -1,2 +1,3 @@
+pub mod Arguments
 pub mod Faults
 pub mod Steps

@@ -1,3 +1,4 @@
 pub mod Chains
 pub mod LineTests
 pub mod PlainLines
+pub mod JoinedLines

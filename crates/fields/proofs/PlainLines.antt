@@ -1,7 +1,7 @@
 -- Lines that are written as a word and numbers, and what the tests on fields show:
 --   plain-line, plain-count, plain-value, plain-numbers    a word and numbers: it has that form, and its numbers are read
 --   value-behind, line-behind                              the same behind a first word and a comma
---   range, in-range, fits-range, fits-by                   a number within its range, both ways
+--   range, in-range, fits-range                            a number within its range, both ways
 --   absent                                                 a field that is not there counts as 0
 use mathlib.Core.Path.{_≡_, refl, sym, ap, _∙_}
 use mathlib.Core.Bool.{true}
@@ -17,9 +17,9 @@ use lib.IntN.{pos}
 use Rattle.text.specs.Text.{fieldOf, fieldCount, numberOf, wellFormed, comma}
 use Rattle.integer.proofs.Bools.{both}
 use Rattle.text.proofs.Parts.{no-field}
-use Rattle.writing.specs.Writing.{numbersOf}
+use Rattle.writing.specs.Writing.{Small, numbersOf}
 use Rattle.text.proofs.Words.{same-self}
-use Rattle.writing.proofs.LineFields.{Lacks, Small, first-field, next-field, next-count, word-field, line-count, natural-field}
+use Rattle.writing.proofs.LineFields.{Lacks, first-field, next-field, next-count, word-field, line-count, natural-field}
 use Rattle.fields.specs.Fields.{inRange, valueAt, isLine, fits, isNumber, numbersFrom}
 
 pub range : (v low high : ℕ) → inRange v low high ≡ true → (low ≤ v) × (v ≤ high)
@@ -69,10 +69,6 @@ module _ (word ns : List ℕ) (small : Small ns) (lacks : Lacks comma word) wher
 pub in-range : (v low high : ℕ) → low ≤ v → v ≤ high → inRange v low high ≡ true
 unfolding inRange
 in-range v low high a b = rw (le-leb low v a, le-leb v high b)
-
-pub fits-by : (l : List ℕ) (k low high v : ℕ) → valueAt l k ≡ v → low ≤ v → v ≤ high → fits l k low high ≡ true
-unfolding fits
-fits-by l k low high v e a b = rw e (in-range v low high a b)
 
 -- behind a first word and a comma
 module _ (word rest : List ℕ) (lacks : Lacks comma word) where

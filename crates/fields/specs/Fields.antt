@@ -2,9 +2,11 @@
 --   "Fields stand in fixed order, parted by commas" "The words are compared byte for byte."
 --   "within a line 2, 3, then 4, 5, 6"
 -- A field that is no number, or is not there, counts as 0 where its value is asked; a line with a bad number is refused before that matters.
-use Prim.Native.Nat.{ℕ, zero, suc, _-_}
+use Prim.Native.Nat.{ℕ, zero, suc, _-_, _≤_}
 use mathlib.Core.Bool.{Bool, true, false, _&&_}
-use mathlib.Core.List.{List}
+use mathlib.Core.List.{List, [], _∷_}
+use mathlib.Core.Logic.{_⊎_}
+use mathlib.Core.Path.{_≡_}
 use lib.Dec.{eqb, leb}
 use Rattle.text.specs.Text.{fieldOf, fieldCount, sameBytes, numberOf}
 use Rattle.text.specs.declared.Number.{Number}
@@ -41,3 +43,13 @@ fits l k low high = inRange (valueAt l k) low high
 unfoldable pub unless : Bool → ℕ → ℕ → ℕ
 unless true number next = next
 unless false number next = number
+
+-- among tests with their numbers, one of number k fails
+abbrev pub Fails : List (ℕ × Bool) → ℕ → Type 0
+Fails [] k = ⊥
+Fails (t ∷ rest) k = ((t .0 ≡ k) × (t .1 ≡ false)) ⊎ Fails rest k
+
+-- "within a line 2, 3, then 4, 5, 6": the least number of a test that fails, and 0 where none does
+pub record LeastFailing (tests : List (ℕ × Bool)) (number : ℕ) : Type 0 where
+  pub given : (number ≡ 0) ⊎ Fails tests number
+  pub least : (k : ℕ) → Fails tests k → (1 ≤ number) × (number ≤ k)

@@ -1,20 +1,20 @@
 -- What acceptance means:
 --   well-formed      an accepted circuit is within the ranges, its gates read lower lines, its outputs and faults name lines that exist
+--   BodyRead, text-read-through    how an accepted text is read, stage by stage
 --   accepted-as, accepted-right    the circuit of the parser's answer
 --   head-fits, gate-right, output-right    what the tests of each line show
-use mathlib.Core.Path.{_≡_, refl, sym, ap, _∙_, subst, subst⁻¹}
+use mathlib.Core.Path.{_≡_, refl, sym, ap, _∙_, subst}
 use mathlib.Core.Bool.{Bool, true, false, cond, _&&_, false≢true}
-use mathlib.Core.List.{List, []}
+use mathlib.Core.List.{List, [], _∷_}
 use Prim.Native.Nat.{ℕ, _+_, _≤_}
-use native.Mathlib.Nat.{zero-add}
 use native.Mathlib.Omega.{arith}
 use lib.Dec.{eqb, leb, ltb, lit≤}
-use lib.ListN.{length, getD}
-use borrow.Author.Tests.{ltb-true, leb-true, eqb-true, eq-eqb}
-use Rattle.text.specs.Text.{textBytes, before, after, lineEnd, indexOf, fieldOf}
+use lib.ListN.{length}
+use borrow.Author.Tests.{ltb-true, leb-true, eqb-true, eq-eqb, lt-ltb}
+use Rattle.text.specs.Text.{textBytes, before, after, hasByte, lineEnd, fieldOf}
 use Rattle.integer.proofs.Bools.{both}
 use Rattle.statements.specs.Items.{noGate, noOutput, sound}
-use Rattle.fields.specs.Fields.{unless, valueAt, fits}
+use Rattle.fields.specs.Fields.{valueAt, fits}
 use Rattle.statements.specs.Lines.{isHead, headFits, headRefusal, headOf, secondFits, isGate, gateFits, readsBelow, gateRefusal, gateOf, isOutput, outputFits, outputRefusal, outputOf, faultOf}
 use Rattle.kinds.specs.Kinds.{kindOf}
 use Rattle.statements.specs.declared.Fault.{Fault}
@@ -26,12 +26,12 @@ use Rattle.statements.specs.declared.Output.{Output}
 use Rattle.fields.proofs.Chains.{unless-passed}
 use Rattle.fields.proofs.PlainLines.{range, fits-range}
 use Rattle.sections.proofs.FaultsRight.{fault-right}
-use Rattle.sections.proofs.LinesRead.{Said, lines-said}
+use Rattle.sections.proofs.LinesRead.{lines-said}
 use Rattle.sections.specs.Sections.{Read, items, lineRefused, lineRefusal}
-use Rattle.sections.specs.FaultLines.{nthFaultRefusal, FaultRight}
+use Rattle.sections.specs.FaultLines.{nthFaultRefusal}
 use Rattle.netlist.specs.Circuits.{Netlist, netlistOf}
 use Rattle.netlist.specs.Parsing.{gatesIn, outputsIn, faultsIn, Parse, accepted, rejected, onRead, endOf, bodyOf, parseOf, meaning, nthGateRefusal, nthOutputRefusal}
-use Rattle.netlist.specs.WellFormed.{SecondRight, GateRight, OutputRight, WellFormed}
+use Rattle.netlist.specs.WellFormed.{SecondRight, GateRight, OutputRight, WellFormed, topOf}
 use Rattle.netlist.specs.declared.Parsed.{Parsed}
 
 -- one line
@@ -97,7 +97,7 @@ output-right top l e =
 
 -- the whole text
 
-abbrev pub isAccepted : Parse → Bool
+abbrev isAccepted : Parse → Bool
 isAccepted (accepted n) = true
 isAccepted (rejected number place) = false
 
@@ -108,83 +108,85 @@ netlistIn d (rejected number place) = d
 never : {X : Type 0} (number place : ℕ) (n : Netlist) → rejected number place ≡ accepted n → X
 never number place n e = absurd (false≢true (ap isAccepted e))
 
-module _ (h : Head) (right : HeadRight h) (n : Netlist) where
-  ended : (gates : List Gate) (outputs : List Output) (faults : List Fault) (rest : List ℕ)
-      → Said (nthGateRefusal (h .inputs)) gateOf noGate gates → length gates ≡ h .gates
-      → Said (nthOutputRefusal (h .inputs + h .gates)) outputOf noOutput outputs → length outputs ≡ h .outputs
-      → Said (nthFaultRefusal (h .inputs + h .gates)) faultOf sound faults → length faults ≡ h .faults
-      → endOf h gates outputs faults rest ≡ accepted n → WellFormed n
-  unfolding endOf
-  ended gates outputs faults rest gs g os o fs f e = go (ltb 0 (length rest)) e
-    where
-      m : Netlist
-      m = record { inputs = h .inputs; gates = gates; outputs = outputs; faults = faults; cap = h .cap }
+-- the lines behind an accepted text's first are read, stage by stage, and nothing is left
+pub record BodyRead (h : Head) (rest : List ℕ) (n : Netlist) : Type 0 where
+  pub after-gates : List ℕ
+  pub after-outputs : List ℕ
+  pub gates-read : gatesIn h rest ≡ items (n .gates) after-gates
+  pub outputs-read : outputsIn h after-gates ≡ items (n .outputs) after-outputs
+  pub faults-read : faultsIn h after-outputs ≡ items (n .faults) []
+  pub inputs-are : n .inputs ≡ h .inputs
+  pub cap-is : n .cap ≡ h .cap
 
-      top : h .inputs + h .gates ≡ h .inputs + length gates
-      top = ap (λ (k : ℕ). h .inputs + k) (sym g)
+body-read-through : (h : Head) (rest : List ℕ) (n : Netlist) → bodyOf h rest ≡ accepted n → BodyRead h rest n
+unfolding bodyOf endOf
+body-read-through h rest n = from-gates (gatesIn h rest) refl
+  where
+    from-end : (gates : List Gate) (outputs : List Output) (faults : List Fault) (a b end : List ℕ) → gatesIn h rest ≡ items gates a → outputsIn h a ≡ items outputs b → faultsIn h b ≡ items faults end
+        → endOf h gates outputs faults end ≡ accepted n → BodyRead h rest n
+    from-end gates outputs faults a b [] x y z e =
+        let m : Netlist = record { inputs = h .inputs; gates = gates; outputs = outputs; faults = faults; cap = h .cap } in
+        subst (BodyRead h rest) (ap (netlistIn m) e)
+        record { after-gates = a; after-outputs = b; gates-read = x; outputs-read = y; faults-read = z; inputs-are = refl; cap-is = refl }
+    from-end gates outputs faults a b (u ∷ end) x y z e = never 7 (h .gates + h .outputs + h .faults + 2) n (sym (rw (lt-ltb 0 (length (u ∷ end)) (omega arith))) ∙ e)
 
-      go : (t : Bool) → cond t (rejected 7 (h .gates + h .outputs + h .faults + 2)) (accepted m) ≡ accepted n → WellFormed n
-      go true q = never 7 (h .gates + h .outputs + h .faults + 2) n q
-      go false q =
-          subst WellFormed (ap (netlistIn m) q)
-          record {
-            inputs-low = right .inputs-low;
-            inputs-high = right .inputs-high;
-            gates-high = subst⁻¹ (λ k. k ≤ 48) g (right .gates-high);
-            outputs-low = subst⁻¹ (λ k. 1 ≤ k) o (right .outputs-low);
-            outputs-high = subst⁻¹ (λ k. k ≤ 4) o (right .outputs-high);
-            faults-low = subst⁻¹ (λ k. 1 ≤ k) f (right .faults-low);
-            faults-high = subst⁻¹ (λ k. k ≤ 32) f (right .faults-high);
-            cap-low = right .cap-low;
-            cap-high = right .cap-high;
-            gates-right = λ j k. let s = gs j k in subst⁻¹ (GateRight (h .inputs + j + 1)) (s .is) (gate-right (h .inputs + j + 1) (s .line) (s .passes));
-            outputs-right = λ j k. let s = os j k in subst (λ t. OutputRight t (getD outputs j noOutput)) top (subst⁻¹ (OutputRight (h .inputs + h .gates)) (s .is) (output-right (h .inputs + h .gates) (s .line) (s .passes)));
-            faults-right = λ j k. let s = fs j k in subst (λ t. FaultRight t (getD faults j sound)) top (subst⁻¹ (FaultRight (h .inputs + h .gates)) (s .is) (fault-right (h .inputs + h .gates) (s .line) (s .passes)));
-          }
+    from-faults : (gates : List Gate) (outputs : List Output) (a b : List ℕ) → gatesIn h rest ≡ items gates a → outputsIn h a ≡ items outputs b → (r : Read Fault) → faultsIn h b ≡ r
+        → onRead r (endOf h gates outputs) ≡ accepted n → BodyRead h rest n
+    from-faults gates outputs a b x y (items faults end) z e = from-end gates outputs faults a b end x y z e
+    from-faults gates outputs a b x y (lineRefused number place) z e = never number place n e
 
-  behind-outputs : (gates : List Gate) (outputs : List Output) (rest : List ℕ) (r : Read Fault) → faultsIn h rest ≡ r
-      → Said (nthGateRefusal (h .inputs)) gateOf noGate gates → length gates ≡ h .gates
-      → Said (nthOutputRefusal (h .inputs + h .gates)) outputOf noOutput outputs → length outputs ≡ h .outputs
-      → onRead r (endOf h gates outputs) ≡ accepted n → WellFormed n
-  unfolding faultsIn
-  behind-outputs gates outputs rest (items faults end) x gs g os o e =
-      let s = lines-said (nthFaultRefusal (h .inputs + h .gates)) faultOf sound (h .faults) (h .gates + h .outputs + 2) rest [] faults end (λ j k. absurd (omega arith)) x in
-      ended gates outputs faults end gs g os o (s .0) (s .1 ∙ zero-add (h .faults)) e
-  behind-outputs gates outputs rest (lineRefused number place) x gs g os o e = never number place n e
+    from-outputs : (gates : List Gate) (a : List ℕ) → gatesIn h rest ≡ items gates a → (r : Read Output) → outputsIn h a ≡ r
+        → onRead r (λ outputs rest. onRead (faultsIn h rest) (endOf h gates outputs)) ≡ accepted n → BodyRead h rest n
+    from-outputs gates a x (items outputs b) y e = from-faults gates outputs a b x y (faultsIn h b) refl e
+    from-outputs gates a x (lineRefused number place) y e = never number place n e
 
-  behind-gates : (gates : List Gate) (rest : List ℕ) (r : Read Output) → outputsIn h rest ≡ r
-      → Said (nthGateRefusal (h .inputs)) gateOf noGate gates → length gates ≡ h .gates
-      → onRead r (λ outputs rest. onRead (faultsIn h rest) (endOf h gates outputs)) ≡ accepted n → WellFormed n
-  unfolding outputsIn
-  behind-gates gates rest (items outputs end) x gs g e =
-      let s = lines-said (nthOutputRefusal (h .inputs + h .gates)) outputOf noOutput (h .outputs) (h .gates + 2) rest [] outputs end (λ j k. absurd (omega arith)) x in
-      behind-outputs gates outputs end (faultsIn h end) refl gs g (s .0) (s .1 ∙ zero-add (h .outputs)) e
-  behind-gates gates rest (lineRefused number place) x gs g e = never number place n e
+    from-gates : (r : Read Gate) → gatesIn h rest ≡ r → onRead r (λ gates rest. onRead (outputsIn h rest) (λ outputs rest. onRead (faultsIn h rest) (endOf h gates outputs))) ≡ accepted n → BodyRead h rest n
+    from-gates (items gates a) x e = from-outputs gates a x (outputsIn h a) refl e
+    from-gates (lineRefused number place) x e = never number place n e
 
-  behind-head : (rest : List ℕ) (r : Read Gate) → gatesIn h rest ≡ r
-      → onRead r (λ gates rest. onRead (outputsIn h rest) (λ outputs rest. onRead (faultsIn h rest) (endOf h gates outputs))) ≡ accepted n → WellFormed n
-  unfolding gatesIn
-  behind-head rest (items gates end) x e =
-      let s = lines-said (nthGateRefusal (h .inputs)) gateOf noGate (h .gates) 2 rest [] gates end (λ j k. absurd (omega arith)) x in
-      behind-gates gates end (outputsIn h end) refl (s .0) (s .1 ∙ zero-add (h .gates)) e
-  behind-head rest (lineRefused number place) x e = never number place n e
+body-right : (h : Head) → HeadRight h → (rest : List ℕ) (n : Netlist) → BodyRead h rest n → WellFormed n
+unfolding gatesIn outputsIn faultsIn
+body-right h right rest n b =
+    let top = h .inputs + h .gates in
+    let g = lines-said (nthGateRefusal (h .inputs)) gateOf noGate (h .gates) 2 rest [] (n .gates) (b .after-gates) (λ j k. absurd (omega arith)) (b .gates-read) in
+    let o = lines-said (nthOutputRefusal top) outputOf noOutput (h .outputs) (h .gates + 2) (b .after-gates) [] (n .outputs) (b .after-outputs) (λ j k. absurd (omega arith)) (b .outputs-read) in
+    let f = lines-said (nthFaultRefusal top) faultOf sound (h .faults) (h .gates + h .outputs + 2) (b .after-outputs) [] (n .faults) [] (λ j k. absurd (omega arith)) (b .faults-read) in
+    let same : top ≡ topOf n = omega (arith, g .1, b .inputs-are) in
+    record {
+      inputs-low = omega (arith, right .inputs-low, b .inputs-are);
+      inputs-high = omega (arith, right .inputs-high, b .inputs-are);
+      gates-high = omega (arith, right .gates-high, g .1);
+      outputs-low = omega (arith, right .outputs-low, o .1);
+      outputs-high = omega (arith, right .outputs-high, o .1);
+      faults-low = omega (arith, right .faults-low, f .1);
+      faults-high = omega (arith, right .faults-high, f .1);
+      cap-low = omega (arith, right .cap-low, b .cap-is);
+      cap-high = omega (arith, right .cap-high, b .cap-is);
+      gates-right = λ j k. let s = g .0 j k in rw (b .inputs-are, s .is) (gate-right (h .inputs + j + 1) (s .line) (s .passes));
+      outputs-right = λ j k. let s = o .0 j k in rw (← same, s .is) (output-right top (s .line) (s .passes));
+      faults-right = λ j k. let s = f .0 j k in rw (← same, s .is) (fault-right top (s .line) (s .passes));
+    }
 
-pub well-formed : (text : List ℕ) (n : Netlist) → parseOf text ≡ accepted n → WellFormed n
-unfolding parseOf bodyOf unless
-well-formed text n e = size (ltb textBytes (length text)) e
+-- the first line passes, and the lines behind it are read
+pub text-read-through : (text : List ℕ) (n : Netlist) → parseOf text ≡ accepted n
+    → (lineRefusal headRefusal text ≡ 0) × BodyRead (headOf (before lineEnd text)) (after lineEnd text) n
+unfolding parseOf
+text-read-through text n e = go (ltb textBytes (length text)) (eqb number 0) refl e
   where
     head : Head
     head = headOf (before lineEnd text)
 
-    first : (b : Bool) (t : Bool) → eqb (unless b 2 (headRefusal (before lineEnd text))) 0 ≡ t
-        → cond t (bodyOf head (after lineEnd text)) (rejected (unless b 2 (headRefusal (before lineEnd text))) 1) ≡ accepted n → WellFormed n
-    first true true z q = behind-head head (head-fits (before lineEnd text) (eqb-true (headRefusal (before lineEnd text)) 0 z)) n (after lineEnd text) (gatesIn head (after lineEnd text)) refl q
-    first b false z q = never (unless b 2 (headRefusal (before lineEnd text))) 1 n q
-    first false true z q = absurd (omega (arith, eqb-true 2 0 z))
+    number : ℕ
+    number = lineRefusal headRefusal text
 
-    size : (t : Bool) → cond t (rejected 1 0) (cond (eqb (lineRefusal headRefusal text) 0) (bodyOf head (after lineEnd text)) (rejected (lineRefusal headRefusal text) 1)) ≡ accepted n → WellFormed n
-    size true q = never 1 0 n q
-    size false q = first (ltb (indexOf lineEnd text) (length text)) (eqb (lineRefusal headRefusal text) 0) refl q
+    go : (s t : Bool) → eqb number 0 ≡ t → cond s (rejected 1 0) (cond t (bodyOf head (after lineEnd text)) (rejected number 1)) ≡ accepted n
+        → (number ≡ 0) × BodyRead head (after lineEnd text) n
+    go true t z q = never 1 0 n q
+    go false false z q = never number 1 n q
+    go false true z q = (eqb-true number 0 z, body-read-through head (after lineEnd text) n q)
+
+pub well-formed : (text : List ℕ) (n : Netlist) → parseOf text ≡ accepted n → WellFormed n
+well-formed text n e = let t = text-read-through text n e in body-right (headOf (before lineEnd text)) (head-fits (before lineEnd text) (unless-passed (hasByte lineEnd text) 2 _ (lit≤ tt) (t .0) .1)) (after lineEnd text) n (t .1)
 
 -- of the parser's answer
 module _ (text : List ℕ) (p : Parsed) (means : meaning p ≡ parseOf text) (number : p .number ≡ 0) where

@@ -1,27 +1,35 @@
--- The first line, and that of a gate or an output, is accepted as what it was written from:
+-- The first line, and that of a gate or an output, is accepted as what it was written from, and no other line is:
 --   head-told, gate-told, output-told    where the item is within its ranges
+--   head-only, gate-only, output-only    a line that is accepted is the line of what it says
 use mathlib.Core.Path.{_≡_, refl, ap, _∙_}
-use mathlib.Core.Bool.{true}
+use mathlib.Core.Bool.{_&&_}
 use mathlib.Core.List.{List, [], _∷_, _++_, map}
 use Prim.Native.Nat.{ℕ, suc, _≤_}
 use native.Mathlib.Omega.{arith}
+use lib.Dec.{lit≤}
 use lib.IntN.{ℤ, pos, natAbs}
 use lib.ListN.{length, getD}
-use borrow.Author.Tests.{lt-ltb, le-leb, eq-eqb}
+use Rattle.integer.specs.ListTests.{any}
 use Rattle.text.specs.Text.{comma, lineEnd, indexOf, fieldOf}
-use Rattle.writing.specs.Writing.{numbersOf, lineOf}
-use Rattle.writing.proofs.LineFields.{Small, lacks-append, next-field, word-field, line-short}
-use Rattle.fields.specs.Fields.{valueAt, unless}
-use Rattle.statements.specs.Lines.{circuitWord, gateWord, outputWord, isHead, headFits, headRefusal, headOf, isGate, secondFits, gateFits, readsBelow, gateRefusal, gateOf, isOutput, outputFits, outputRefusal, outputOf}
-use Rattle.kinds.specs.Kinds.{kindWord}
+use Rattle.writing.specs.Writing.{Small, decimalTo, decimalOf, integerOf, gather, numberField, numbersOf, lineOf}
+use Rattle.writing.proofs.LineFields.{AtMost, most-small, line-longest, lacks-append}
+use Rattle.writing.proofs.Writings.{line-long}
+use Rattle.integer.proofs.Bools.{both}
+use Rattle.fields.specs.Fields.{valueAt, isLine, unless}
+use Rattle.statements.specs.Lines.{circuitWord, gateWord, outputWord, isHead, headRefusal, headOf, isGate, gateRefusal, gateOf, isOutput, outputRefusal, outputOf}
+use Rattle.statements.specs.LineForms.{lineFrom, SecondInRange, gateFrom}
+use Rattle.statements.proofs.FormsMeant.{head-form, gate-form, gate-kind, gate-value, output-form}
+use Rattle.kinds.specs.Kinds.{kindWord, isKind}
 use Rattle.statements.specs.declared.Gate.{Gate}
 use Rattle.statements.specs.declared.Head.{Head}
 use Rattle.kinds.specs.declared.Kind.{Kind}
 use Rattle.kinds.specs.declared.Kind.the-variants.{And, Or, Nand, Nor, Xor, Xnor, Not}
 use Rattle.statements.specs.declared.Output.{Output}
-use Rattle.kinds.proofs.KindWords.{KindWritten, kind-written}
+use Rattle.kinds.proofs.KindWords.{KindWritten, kind-written, kind-only}
 use Rattle.sections.proofs.LinesWritten.{Told}
-use Rattle.fields.proofs.PlainLines.{plain-count, plain-value, plain-numbers, plain-line, in-range, fits-by, value-behind, line-behind}
+use Rattle.fields.proofs.Chains.{unless-passed}
+use Rattle.fields.proofs.JoinedLines.{line-ended, behind-ended}
+use Rattle.fields.proofs.PlainLines.{plain-value}
 use Rattle.netlist.specs.CircuitText.{headLine, gateLine, outputLine}
 use Rattle.netlist.specs.Circuits.{Netlist}
 use Rattle.netlist.specs.WellFormed.{SecondRight, GateRight, OutputRight, WellFormed}
@@ -31,8 +39,8 @@ use Rattle.netlist.specs.WellFormed.{SecondRight, GateRight, OutputRight
 abbrev pub headWritten : Netlist → Head
 headWritten n = record { inputs = n .inputs; gates = length (n .gates); outputs = length (n .outputs); faults = length (n .faults); cap = n .cap }
 
-pub head-told : (n : Netlist) → WellFormed n → Told headRefusal headOf (headLine n) (headWritten n)
-unfolding headLine headRefusal isHead headFits headOf unless indexOf
+pub head-told : (n : Netlist) → WellFormed n → Told 20 headRefusal headOf (headLine n) (headWritten n)
+unfolding headLine headRefusal headOf unless indexOf any lineOf numbersOf gather numberField integerOf decimalOf decimalTo
 head-told n w =
     record {
       word = circuitWord;
@@ -40,43 +48,58 @@ head-told n w =
       is = refl;
       one-line = refl;
       passes = rw (
-        plain-line circuitWord ns small refl,
-        fits-by l 1 1 8 (n .inputs) (at 0) (w .inputs-low) (w .inputs-high),
-        fits-by l 2 0 48 (length (n .gates)) (at 1) (omega arith) (w .gates-high),
-        fits-by l 3 1 4 (length (n .outputs)) (at 2) (w .outputs-low) (w .outputs-high),
-        fits-by l 4 1 32 (length (n .faults)) (at 3) (w .faults-low) (w .faults-high),
-        fits-by l 5 1 4 (n .cap) (at 4) (w .cap-low) (w .cap-high),
+        head-form .form (lineFrom circuitWord ns) .1 (ns, small, refl, refl),
+        head-form .range (n .inputs) (length (n .gates)) (length (n .outputs)) (length (n .faults)) (n .cap) small .1 (
+          w .inputs-low,
+          w .inputs-high,
+          w .gates-high,
+          w .outputs-low,
+          w .outputs-high,
+          w .faults-low,
+          w .faults-high,
+          w .cap-low,
+          w .cap-high,
+        ),
       );
       says = rw (at 0, at 1, at 2, at 3, at 4);
-      short = omega (arith, line-short circuitWord ns small);
+      short = line-longest circuitWord longest ns high;
     }
   where
     ns : List ℕ
     ns = n .inputs ∷ length (n .gates) ∷ length (n .outputs) ∷ length (n .faults) ∷ n .cap ∷ []
 
-    l : List ℕ
-    l = circuitWord ++ numbersOf (map pos ns)
+    -- their line has 20 bytes
+    longest : List ℕ
+    longest = 8 ∷ 48 ∷ 4 ∷ 32 ∷ 4 ∷ []
+
+    high : AtMost longest ns
+    high = (w .inputs-high, (w .gates-high, (w .outputs-high, (w .faults-high, (w .cap-high, tt)))))
 
     small : Small ns
-    small = (omega (arith, w .inputs-high), (omega (arith, w .gates-high), (omega (arith, w .outputs-high), (omega (arith, w .faults-high), (omega (arith, w .cap-high), tt)))))
+    small = most-small longest ns refl high
 
-    at : (k : ℕ) → valueAt l (suc k) ≡ getD ns k 0
+    at : (k : ℕ) → valueAt (lineFrom circuitWord ns) (suc k) ≡ getD ns k 0
     at k = plain-value circuitWord ns small refl k
+
+pub head-only : (l : List ℕ) (n : Netlist) → headRefusal l ≡ 0 → headOf l ≡ headWritten n → l ++ (lineEnd ∷ []) ≡ headLine n
+unfolding headRefusal isHead headOf headLine
+head-only l n e is =
+    line-ended l circuitWord 5 (unless-passed (isLine l circuitWord 1 6) 2 _ (lit≤ tt) e .0)
+    ∙ ap (λ (h : Head). lineOf circuitWord (pos (h .inputs) ∷ pos (h .gates) ∷ pos (h .outputs) ∷ pos (h .faults) ∷ pos (h .cap) ∷ [])) is
 
 -- ---- gates
 
-second-fits : (k : Kind) (b : ℕ) → SecondRight k b → b ≤ 56 → secondFits k b ≡ true
-unfolding secondFits
-second-fits And b r h = in-range b 1 56 r h
-second-fits Or b r h = in-range b 1 56 r h
-second-fits Nand b r h = in-range b 1 56 r h
-second-fits Nor b r h = in-range b 1 56 r h
-second-fits Xor b r h = in-range b 1 56 r h
-second-fits Xnor b r h = in-range b 1 56 r h
-second-fits Not b r h = eq-eqb b 0 r
+second-ranged : (k : Kind) (b : ℕ) → SecondRight k b → b ≤ 56 → SecondInRange k b
+second-ranged And b r h = (r, h)
+second-ranged Or b r h = (r, h)
+second-ranged Nand b r h = (r, h)
+second-ranged Nor b r h = (r, h)
+second-ranged Xor b r h = (r, h)
+second-ranged Xnor b r h = (r, h)
+second-ranged Not b r h = r
 
-pub gate-told : (own : ℕ) (g : Gate) → own ≤ 56 → GateRight own g → Told (gateRefusal own) gateOf (gateLine g) g
-unfolding gateLine gateRefusal isGate gateFits readsBelow gateOf unless indexOf
+pub gate-told : (own : ℕ) (g : Gate) → own ≤ 56 → GateRight own g → Told 16 (gateRefusal own) gateOf (gateLine g) g
+unfolding gateLine gateRefusal gateOf unless indexOf any lineOf numbersOf gather numberField integerOf decimalOf decimalTo
 gate-told own g h r =
     record {
       word = gateWord ++ (comma ∷ kindWord (g .kind));
@@ -84,19 +107,12 @@ gate-told own g h r =
       is = refl;
       one-line = lacks-append lineEnd (gateWord ++ (comma ∷ [])) (kindWord (g .kind)) refl (kind .one-line);
       passes = rw (
-        line-behind gateWord rest refl 1 3 (plain-count (kindWord (g .kind)) ns small (kind .one-field)) (plain-numbers (kindWord (g .kind)) ns small (kind .one-field)),
-        named,
-        kind .known,
-        kind .read,
-        fits-by l 2 1 56 (g .a) (at 0) (r .first) (omega (arith, r .first-below)),
-        at 0,
-        at 1,
-        second-fits (g .kind) (g .b) (r .second) (omega (arith, r .second-below)),
-        lt-ltb (g .a) own (r .first-below),
-        lt-ltb (g .b) own (r .second-below),
+        gate-form .form (gateFrom (g .kind) (g .a) (g .b)) .1 (g .kind, g .a, g .b, small, refl),
+        gate-form .range (g .kind) (g .a) (g .b) small .1 (r .first, omega (arith, r .first-below), second-ranged (g .kind) (g .b) (r .second) (omega (arith, r .second-below))),
+        gate-form .below own (g .kind) (g .a) (g .b) small .1 (r .first-below, r .second-below),
       );
-      says = rw (named, kind .read, at 0, at 1);
-      short = omega (arith, line-short (gateWord ++ (comma ∷ kindWord (g .kind))) ns small, kind .short);
+      says = rw (gate-kind (g .kind) (g .a) (g .b) small, kind .read, at 0, at 1);
+      short = omega (arith, line-longest (gateWord ++ (comma ∷ kindWord (g .kind))) longest ns high, line-long (gateWord ++ (comma ∷ kindWord (g .kind))) (map pos longest), kind .short);
     }
   where
     kind : KindWritten (g .kind)
@@ -105,26 +121,29 @@ gate-told own g h r =
     ns : List ℕ
     ns = g .a ∷ g .b ∷ []
 
+    -- their line has 16 bytes behind a kind of four
+    longest : List ℕ
+    longest = 56 ∷ 56 ∷ []
+
+    high : AtMost longest ns
+    high = (omega (arith, r .first-below), (omega (arith, r .second-below), tt))
+
     small : Small ns
-    small = (omega (arith, r .first-below), (omega (arith, r .second-below), tt))
+    small = most-small longest ns refl high
 
-    -- from the kind on
-    rest : List ℕ
-    rest = kindWord (g .kind) ++ numbersOf (map pos ns)
+    at : (k : ℕ) → valueAt (gateFrom (g .kind) (g .a) (g .b)) (suc (suc k)) ≡ getD ns k 0
+    at = gate-value (g .kind) (g .a) (g .b) small
 
-    l : List ℕ
-    l = gateWord ++ (comma ∷ rest)
-
-    named : fieldOf l 1 ≡ kindWord (g .kind)
-    named = next-field gateWord rest refl 0 ∙ word-field (kindWord (g .kind)) (map pos ns) (kind .one-field)
-
-    at : (k : ℕ) → valueAt l (suc (suc k)) ≡ getD ns k 0
-    at k = value-behind gateWord rest refl (suc k) ∙ plain-value (kindWord (g .kind)) ns small (kind .one-field) k
+pub gate-only : (own : ℕ) (l : List ℕ) → gateRefusal own l ≡ 0 → l ++ (lineEnd ∷ []) ≡ gateLine (gateOf l)
+unfolding gateRefusal isGate gateOf gateLine
+gate-only own l e =
+    let f = both (isLine l gateWord 2 4) (isKind (fieldOf l 1)) (unless-passed (isLine l gateWord 2 4 && isKind (fieldOf l 1)) 2 _ (lit≤ tt) e .0) in
+    behind-ended l gateWord 2 (f .0) ∙ ap (λ (w : List ℕ). lineOf (gateWord ++ (comma ∷ w)) (pos (valueAt l 2) ∷ pos (valueAt l 3) ∷ [])) (kind-only (fieldOf l 1) (f .1))
 
 -- ---- outputs
 
-pub output-told : (top : ℕ) (o : Output) → top ≤ 56 → OutputRight top o → Told (outputRefusal top) outputOf (outputLine o) o
-unfolding outputLine outputRefusal isOutput outputFits outputOf unless indexOf
+pub output-told : (top : ℕ) (o : Output) → top ≤ 56 → OutputRight top o → Told 13 (outputRefusal top) outputOf (outputLine o) o
+unfolding outputLine outputRefusal outputOf unless indexOf any lineOf numbersOf gather numberField integerOf decimalOf decimalTo
 output-told top o h r =
     record {
       word = outputWord;
@@ -132,24 +151,30 @@ output-told top o h r =
       is = ap (λ (z : ℤ). lineOf outputWord (pos (o .line) ∷ z ∷ [])) (r .weight-whole);
       one-line = refl;
       passes = rw (
-        plain-line outputWord ns small refl,
-        fits-by l 1 1 56 (o .line) (at 0) (r .line-low) (omega (arith, r .line-high)),
-        fits-by l 2 1 15 (natAbs (o .weight)) (at 1) (r .weight-low) (r .weight-high),
-        at 0,
-        le-leb (o .line) top (r .line-high),
+        output-form .form (lineFrom outputWord ns) .1 (ns, small, refl, refl),
+        output-form .range (o .line) (natAbs (o .weight)) small .1 (r .line-low, omega (arith, r .line-high), r .weight-low, r .weight-high),
+        output-form .exists top (o .line) (natAbs (o .weight)) small .1 (r .line-high),
       );
       says = rw (at 0, at 1, ← r .weight-whole);
-      short = omega (arith, line-short outputWord ns small);
+      short = line-longest outputWord longest ns high;
     }
   where
     ns : List ℕ
     ns = o .line ∷ natAbs (o .weight) ∷ []
 
+    -- their line has 13 bytes
+    longest : List ℕ
+    longest = 56 ∷ 15 ∷ []
+
+    high : AtMost longest ns
+    high = (omega (arith, r .line-high), (r .weight-high, tt))
+
     small : Small ns
-    small = (omega (arith, r .line-high), (omega (arith, r .weight-high), tt))
+    small = most-small longest ns refl high
 
-    l : List ℕ
-    l = outputWord ++ numbersOf (map pos ns)
-
-    at : (k : ℕ) → valueAt l (suc k) ≡ getD ns k 0
+    at : (k : ℕ) → valueAt (lineFrom outputWord ns) (suc k) ≡ getD ns k 0
     at k = plain-value outputWord ns small refl k
+
+pub output-only : (top : ℕ) (l : List ℕ) → outputRefusal top l ≡ 0 → l ++ (lineEnd ∷ []) ≡ outputLine (outputOf l)
+unfolding outputRefusal isOutput outputOf outputLine
+output-only top l e = line-ended l outputWord 2 (unless-passed (isLine l outputWord 1 3) 2 _ (lit≤ tt) e .0)

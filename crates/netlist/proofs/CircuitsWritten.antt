@@ -1,7 +1,7 @@
 -- Every well-formed circuit has a text:
 --   text-accepted       the text of a well-formed circuit is accepted as that circuit
 --   accepted-exactly    the well-formed circuits are those that some text is accepted as
---   text-short          such a text is at most 16,384 bytes long
+--   text-short          such a text is at most 1,512 bytes long
 use mathlib.Core.Path.{_≡_, sym, ap, _∙_}
 use mathlib.Core.List.{List, [], _++_, append-nil}
 use mathlib.Core.Logic.{_↔_}
@@ -18,38 +18,38 @@ use Rattle.sections.specs.Sections.{eachLine}
 use Rattle.sections.proofs.FaultsWritten.{fault-told}
 use Rattle.sections.proofs.LinesWritten.{told-has, told-before, told-after, lines-read, lines-short, Told}
 use Rattle.fields.specs.Fields.{unless}
-use Rattle.netlist.specs.CircuitText.{headLine, gateLine, outputLine, textOf}
+use Rattle.netlist.specs.CircuitText.{circuitBytes, headLine, gateLine, outputLine, textOf}
 use Rattle.netlist.specs.Circuits.{Netlist}
 use Rattle.netlist.specs.Parsing.{gatesIn, outputsIn, faultsIn, accepted, endOf, bodyOf, parseOf, nthGateRefusal, nthOutputRefusal}
 use Rattle.netlist.specs.WellFormed.{WellFormed, topOf}
 use Rattle.netlist.proofs.Acceptance.{well-formed}
 use Rattle.netlist.proofs.CircuitLines.{headWritten, head-told, gate-told, output-told}
 
-pub head-read : (text rest : List ℕ) (h : Head) → Told headRefusal headOf text h → length (text ++ rest) ≤ textBytes → parseOf (text ++ rest) ≡ bodyOf h rest
+pub head-read : {bytes : ℕ} (text rest : List ℕ) (h : Head) → Told bytes headRefusal headOf text h → length (text ++ rest) ≤ textBytes → parseOf (text ++ rest) ≡ bodyOf h rest
 unfolding parseOf unless
 head-read text rest h t few = rw (le-ltb textBytes (length (text ++ rest)) few, told-has t rest, told-before t rest, t .passes, told-after t rest, t .says)
 
 -- the parts of the text behind its first line
-abbrev gatesText : Netlist → List ℕ
+abbrev pub gatesText : Netlist → List ℕ
 gatesText n = eachLine gateLine noGate (n .gates)
 
-abbrev outputsText : Netlist → List ℕ
+abbrev pub outputsText : Netlist → List ℕ
 outputsText n = eachLine outputLine noOutput (n .outputs)
 
-abbrev faultsText : Netlist → List ℕ
+abbrev pub faultsText : Netlist → List ℕ
 faultsText n = eachLine faultLine sound (n .faults)
 
 module _ (n : Netlist) (w : WellFormed n) where
   top-high : topOf n ≤ 56
   top-high = omega (arith, w .inputs-high, w .gates-high)
 
-  gates-told : (j : ℕ) → j < length (n .gates) → Told (nthGateRefusal (n .inputs) j) gateOf (gateLine (getD (n .gates) j noGate)) (getD (n .gates) j noGate)
+  gates-told : (j : ℕ) → j < length (n .gates) → Told 16 (nthGateRefusal (n .inputs) j) gateOf (gateLine (getD (n .gates) j noGate)) (getD (n .gates) j noGate)
   gates-told j h = gate-told (n .inputs + j + 1) (getD (n .gates) j noGate) (omega (arith, w .inputs-high, w .gates-high)) (w .gates-right j h)
 
-  outputs-told : (j : ℕ) → j < length (n .outputs) → Told (nthOutputRefusal (topOf n) j) outputOf (outputLine (getD (n .outputs) j noOutput)) (getD (n .outputs) j noOutput)
+  outputs-told : (j : ℕ) → j < length (n .outputs) → Told 13 (nthOutputRefusal (topOf n) j) outputOf (outputLine (getD (n .outputs) j noOutput)) (getD (n .outputs) j noOutput)
   outputs-told j h = output-told (topOf n) (getD (n .outputs) j noOutput) top-high (w .outputs-right j h)
 
-  faults-told : (j : ℕ) → j < length (n .faults) → Told (nthFaultRefusal (topOf n) j) faultOf (faultLine (getD (n .faults) j sound)) (getD (n .faults) j sound)
+  faults-told : (j : ℕ) → j < length (n .faults) → Told 21 (nthFaultRefusal (topOf n) j) faultOf (faultLine (getD (n .faults) j sound)) (getD (n .faults) j sound)
   faults-told j h = fault-told (topOf n) (getD (n .faults) j sound) top-high (w .faults-right j h)
 
   body-read : bodyOf (headWritten n) (gatesText n ++ (outputsText n ++ faultsText n)) ≡ accepted n
@@ -62,7 +62,7 @@ module _ (n : Netlist) (w : WellFormed n) where
         lines-read (nthFaultRefusal (topOf n)) faultOf faultLine sound (n .faults) faults-told (length (n .gates) + length (n .outputs) + 2) [],
       )
 
-  pub text-short : length (textOf n) ≤ textBytes
+  pub text-short : length (textOf n) ≤ circuitBytes
   unfolding textOf
   text-short =
       let h = head-told n w in
@@ -83,7 +83,7 @@ module _ (n : Netlist) (w : WellFormed n) where
 
   pub text-accepted : parseOf (textOf n) ≡ accepted n
   unfolding textOf
-  text-accepted = head-read (headLine n) (gatesText n ++ (outputsText n ++ faultsText n)) (headWritten n) (head-told n w) text-short ∙ body-read
+  text-accepted = head-read (headLine n) (gatesText n ++ (outputsText n ++ faultsText n)) (headWritten n) (head-told n w) (omega (arith, text-short)) ∙ body-read
 
 pub accepted-exactly : (n : Netlist) → WellFormed n ↔ ((text : List ℕ) × (parseOf text ≡ accepted n))
 accepted-exactly n = (λ w. (textOf n, text-accepted n w), λ t. well-formed (t .0) n (t .1))

@@ -4,3 +4,4 @@ pub mod CircuitLines
 pub mod Counts
 pub mod Refusals
 pub mod CircuitsWritten
+pub mod AcceptedTexts

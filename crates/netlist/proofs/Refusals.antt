@@ -1,52 +1,253 @@
--- How a text is refused:
---   text-refused    by 1 at place 0, or by 2 to 7 at a line from 1 to 86
---   one-exactly     by 1 exactly where it has more than 16,384 bytes
-use mathlib.Core.Path.{_≡_, refl, sym, ap, _∙_}
-use mathlib.Core.Bool.{Bool, true, false, cond, true≢false}
-use mathlib.Core.List.{List, []}
-use mathlib.Core.Logic.{_↔_, _⊎_, inl, inr}
-use Prim.Native.Nat.{ℕ, _+_, _<_, _≤_}
+-- How a text is answered, by its lines:
+--   one-exactly, line-exactly, seven-exactly    refused by 1, by 2 to 6 and by 7, each exactly where it holds, at that place
+--   none-exactly                                accepted exactly where none of them applies
+--   text-refused                                by 1 at place 0, or by 2 to 7 at a line from 1 to 86; number-some: never by 0
+use mathlib.Core.Path.{_≡_, refl, sym, ap, ap₂, _∙_, subst}
+use mathlib.Core.Bool.{Bool, true, false, cond}
+use mathlib.Core.List.{List, [], _∷_}
+use mathlib.Core.Logic.{_↔_, _⊎_, inl, inr, ⊎-elim}
+use Prim.Native.Nat.{ℕ, _+_, _-_, _<_, _≤_}
+use native.Mathlib.Decide.{decLe}
+use native.Mathlib.Nat.{zero-add, lt-of-not-le}
 use native.Mathlib.Omega.{arith}
 use lib.Dec.{eqb, ltb, lit≤, leb}
 use lib.ListN.{length}
-use borrow.Author.Tests.{ltb-true, eqb-true}
+use borrow.Author.Tests.{ltb-true, ltb-false, eqb-true, lt-ltb, ne-eqb, le-leb, lt-leb}
 use Rattle.text.specs.Text.{textBytes, before, after, hasByte, lineEnd}
-use Rattle.fields.specs.Fields.{unless, valueAt}
-use Rattle.statements.specs.Lines.{isHead, headFits, headRefusal, headOf, isGate, gateFits, readsBelow, gateRefusal, gateOf, isOutput, outputFits, outputRefusal, outputOf, faultOf}
+use Rattle.fields.specs.Fields.{unless}
+use Rattle.statements.specs.Lines.{headRefusal, gateRefusal, gateOf, outputRefusal, outputOf, faultOf, faultRefusal}
 use Rattle.statements.specs.declared.Fault.{Fault}
 use Rattle.statements.specs.declared.Gate.{Gate}
 use Rattle.statements.specs.declared.Head.{Head}
 use Rattle.statements.specs.declared.Output.{Output}
-use Rattle.sections.specs.Sections.{Read, items, lineRefused, lineRefusal, linesOf}
+use Rattle.sections.specs.Sections.{Read, items, lineRefused, lineRefusal, linesFrom, linesOf}
 use Rattle.sections.specs.FaultLines.{nthFaultRefusal}
 use Rattle.fields.proofs.Chains.{LineNumber, numbered, not-zero}
-use Rattle.sections.proofs.LinesRead.{lines-refused}
-use Rattle.sections.proofs.FaultsRight.{fault-number}
-use Rattle.netlist.specs.Parsing.{gatesIn, outputsIn, faultsIn, Parse, accepted, rejected, onRead, endOf, bodyOf, parseOf, nthGateRefusal, nthOutputRefusal, onParse}
-use Rattle.netlist.proofs.Acceptance.{isAccepted, HeadRight, head-fits}
+use Rattle.statements.proofs.LineNumbers.{head-number, gate-number, output-number, fault-number}
+use Rattle.sections.proofs.LinesRead.{lines-further, lines-passed, lines-stopped}
+use Rattle.netlist.specs.Circuits.{Netlist}
+use Rattle.netlist.specs.Parsing.{gatesIn, outputsIn, faultsIn, Parse, accepted, rejected, onRead, endOf, bodyOf, parseOf, nthGateRefusal, nthOutputRefusal}
+use Rattle.netlist.specs.Places.{textHead, linesDue, dueRefusal, refusalAt, LineFails, DuePass, behindDue, BytesFollow, NoneApplies}
+use Rattle.netlist.proofs.Acceptance.{head-fits}
 use Rattle.netlist.proofs.Assembling.{too-long}
 
--- one line
+-- the line that is due behind so many others
 
-head-number : (l : List ℕ) → LineNumber (headRefusal l)
-unfolding headRefusal
-head-number l = numbered (isHead l) 2 _ (lit≤ tt) (lit≤ tt) (numbered (headFits l) 3 0 (lit≤ tt) (lit≤ tt) (inl refl))
+due-number : (h : Head) (k : ℕ) (l : List ℕ) → LineNumber (dueRefusal h k l)
+unfolding dueRefusal
+due-number h k l = go (eqb k 0) (leb k (h .gates)) (leb k (h .gates + h .outputs))
+  where
+    go : (a b c : Bool)
+        → LineNumber (cond a (headRefusal l) (cond b (gateRefusal (h .inputs + k) l) (cond c (outputRefusal (h .inputs + h .gates) l) (faultRefusal (h .inputs + h .gates) l))))
+    go true b c = head-number l
+    go false true c = gate-number (h .inputs + k) l
+    go false false true = output-number (h .inputs + h .gates) l
+    go false false false = fault-number (h .inputs + h .gates) l
 
-gate-number : (own : ℕ) (l : List ℕ) → LineNumber (gateRefusal own l)
-unfolding gateRefusal
-gate-number own l = numbered (isGate l) 2 _ (lit≤ tt) (lit≤ tt) (numbered (gateFits l) 3 _ (lit≤ tt) (lit≤ tt) (numbered (readsBelow own l) 4 0 (lit≤ tt) (lit≤ tt) (inl refl)))
+number-at : (text : List ℕ) (k : ℕ) → LineNumber (refusalAt text k)
+unfolding refusalAt
+number-at text k =
+    numbered (hasByte lineEnd (linesFrom k text)) 2 (dueRefusal (textHead text) k (before lineEnd (linesFrom k text))) (lit≤ tt) (lit≤ tt)
+    (due-number (textHead text) k (before lineEnd (linesFrom k text)))
 
-output-number : (top : ℕ) (l : List ℕ) → LineNumber (outputRefusal top l)
-unfolding outputRefusal
-output-number top l = numbered (isOutput l) 2 _ (lit≤ tt) (lit≤ tt) (numbered (outputFits l) 3 _ (lit≤ tt) (lit≤ tt) (numbered (leb (valueAt l 1) top) 5 0 (lit≤ tt) (lit≤ tt) (inl refl)))
+module _ (h : Head) (j : ℕ) (l : List ℕ) where
+  gate-due : j < h .gates → dueRefusal h (1 + j) l ≡ nthGateRefusal (h .inputs) j l
+  unfolding dueRefusal
+  gate-due k =
+      let e : h .inputs + (1 + j) ≡ h .inputs + j + 1 = omega arith in
+      rw (ne-eqb (1 + j) 0 (λ z. omega arith), le-leb (1 + j) (h .gates) (omega arith), e)
+
+  output-due : j < h .outputs → dueRefusal h (1 + h .gates + j) l ≡ nthOutputRefusal (h .inputs + h .gates) j l
+  unfolding dueRefusal
+  output-due k = rw (ne-eqb (1 + h .gates + j) 0 (λ z. omega arith), lt-leb (1 + h .gates + j) (h .gates) (omega arith), le-leb (1 + h .gates + j) (h .gates + h .outputs) (omega arith))
+
+  fault-due : dueRefusal h (1 + h .gates + h .outputs + j) l ≡ nthFaultRefusal (h .inputs + h .gates) j l
+  unfolding dueRefusal
+  fault-due =
+      rw (
+        ne-eqb (1 + h .gates + h .outputs + j) 0 (λ z. omega arith),
+        lt-leb (1 + h .gates + h .outputs + j) (h .gates) (omega arith),
+        lt-leb (1 + h .gates + h .outputs + j) (h .gates + h .outputs) (omega arith),
+      )
 
 -- the whole text
 
-abbrev rejectionNumber : Parse → ℕ
-rejectionNumber = onParse (λ n. 0) (λ number place. number)
+-- what each answer of the parser means
+abbrev Means : List ℕ → Parse → Type 0
+Means text (accepted n) = NoneApplies text
+Means text (rejected number place) = ((number ≡ 1) × (place ≡ 0) × (textBytes < length text)) ⊎ (LineFails text number place ⊎ ((number ≡ 7) × BytesFollow text place))
 
-abbrev rejectionPlace : Parse → ℕ
-rejectionPlace = onParse (λ n. 0) (λ number place. place)
+-- the first `count` lines pass
+abbrev Passing : List ℕ → ℕ → Type 0
+Passing text count = (k : ℕ) → k < count → refusalAt text k ≡ 0
+
+module _ (text : List ℕ) (few : length text ≤ textBytes) where
+  abbrev h : Head
+  h = textHead text
+
+  -- `count` lines of one kind behind m lines that pass: a refusal among them, or what comes behind them
+  module _ {A : Type 0} (refusal : ℕ → List ℕ → ℕ) (item : List ℕ → A) (m count low : ℕ) (within : m + count ≤ linesDue h) (low-is : low ≡ m + 1)
+      (due : (j : ℕ) (l : List ℕ) → j < count → dueRefusal h (m + j) l ≡ refusal j l) where
+    module _ (rest : List ℕ) (rest-is : rest ≡ linesFrom m text) (passing : Passing text m) where
+      at : (j : ℕ) → j < count → refusalAt text (m + j) ≡ lineRefusal (refusal (0 + j)) (linesFrom j rest)
+      unfolding refusalAt
+      at j k =
+          let e : linesFrom (m + j) text ≡ linesFrom j rest = sym (lines-further m j text) ∙ ap (linesFrom j) (sym rest-is) in
+          ap (λ (r : List ℕ). lineRefusal (dueRefusal h (m + j)) r) e
+          ∙ ap (unless (hasByte lineEnd (linesFrom j rest)) 2) (due j (before lineEnd (linesFrom j rest)) k ∙ ap (λ (i : ℕ). refusal i (before lineEnd (linesFrom j rest))) (sym (zero-add j)))
+
+      -- the first `lines` of them pass too
+      further : (lines : ℕ) → lines ≤ count → ((j : ℕ) → j < lines → lineRefusal (refusal (0 + j)) (linesFrom j rest) ≡ 0) → Passing text (m + lines)
+      further lines most p k b = go (decLe m k)
+        where
+          go : Dec (m ≤ k) → refusalAt text k ≡ 0
+          go (yes a) = let e : k ≡ m + (k - m) = omega arith in ap (refusalAt text) e ∙ at (k - m) (omega arith) ∙ p (k - m) (omega arith)
+          go (no a) = passing k (lt-of-not-le a)
+
+      stage : (next : List A → List ℕ → Parse) → ((l : List A) (end : List ℕ) → end ≡ linesFrom (m + count) text → Passing text (m + count) → Means text (next l end))
+          → Means text (onRead (linesOf refusal item count low rest []) next)
+      stage next behind = go (linesOf refusal item count low rest []) refl
+        where
+          go : (r : Read A) → linesOf refusal item count low rest [] ≡ r → Means text (onRead r next)
+          go (items l end) x =
+              let p = lines-passed refusal item count low rest [] l end x in
+              behind l end (p .end-is ∙ ap (linesFrom count) rest-is ∙ lines-further m count text) (further count (omega arith) (p .passing))
+          go (lineRefused number place) x =
+              let s = lines-stopped refusal item number place count low rest [] x in
+              let i : place - 1 ≡ m + s .lines = omega (arith, s .place-is) in
+              let is : refusalAt text (place - 1) ≡ number = ap (refusalAt text) i ∙ at (s .lines) (s .within) ∙ s .refused in
+              let n = not-zero number (subst LineNumber is (number-at text (place - 1))) (ne-eqb number 0 (s .some)) in
+              inr (inl record {
+                few = few;
+                number-low = n .0;
+                number-high = n .1;
+                place-low = omega (arith, s .place-is);
+                place-due = omega (arith, s .place-is, s .within);
+                refused = is;
+                earlier-pass = λ k b. further (s .lines) (omega (arith, s .within)) (s .passing) k (omega (arith, i));
+              })
+
+  ended : (gates : List Gate) (outputs : List Output) (faults : List Fault) (rest : List ℕ) → rest ≡ behindDue text → Passing text (linesDue h) → Means text (endOf h gates outputs faults rest)
+  unfolding endOf
+  ended gates outputs faults [] e p = record { pass = record { few = few; each = p }; all = sym e }
+  ended gates outputs faults (x ∷ rest) e p =
+      rw (lt-ltb 0 (length (x ∷ rest)) (omega arith))
+      (inr (inr (refl, record { pass = record { few = few; each = p }; bytes = subst (λ (l : List ℕ). 0 < length l) e (omega arith); place-is = omega arith })))
+
+  in-body : refusalAt text 0 ≡ 0 → Means text (bodyOf h (after lineEnd text))
+  unfolding bodyOf gatesIn outputsIn faultsIn linesFrom
+  in-body first =
+      stage (nthGateRefusal (h .inputs)) gateOf 1 (h .gates) 2 (omega arith) (lit≡) (λ j l. gate-due h j l) (after lineEnd text) refl (λ k b. ap (refusalAt text) (none k b) ∙ first)
+      (λ gates r. onRead (outputsIn h r) (λ outputs r. onRead (faultsIn h r) (endOf h gates outputs)))
+      (λ gates r e p.
+      stage (nthOutputRefusal (h .inputs + h .gates)) outputOf (1 + h .gates) (h .outputs) (h .gates + 2) (omega arith) (omega arith) (λ j l. output-due h j l) r e p
+      (λ outputs r. onRead (faultsIn h r) (endOf h gates outputs))
+      (λ outputs r e p.
+      stage (nthFaultRefusal (h .inputs + h .gates)) faultOf (1 + h .gates + h .outputs) (h .faults) (h .gates + h .outputs + 2) (omega arith) (omega arith) (λ j l k. fault-due h j l) r e p
+      (endOf h gates outputs)
+      (ended gates outputs)))
+    where
+      none : (k : ℕ) → k < 1 → k ≡ 0
+      none k b = omega arith
+
+      lit≡ : 2 ≡ 1 + 1
+      lit≡ = omega arith
+
+head-at : (text : List ℕ) → refusalAt text 0 ≡ lineRefusal headRefusal text
+unfolding refusalAt dueRefusal linesFrom
+head-at text = refl
+
+parse-means : (text : List ℕ) → Means text (parseOf text)
+unfolding parseOf
+parse-means text = size (ltb textBytes (length text)) refl
+  where
+    line : ℕ
+    line = lineRefusal headRefusal text
+
+    first : length text ≤ textBytes → (t : Bool) → eqb line 0 ≡ t → Means text (cond t (bodyOf (textHead text) (after lineEnd text)) (rejected line 1))
+    first few true z = in-body text few (head-at text ∙ eqb-true line 0 z)
+    first few false z =
+        let n = not-zero line (subst LineNumber (head-at text) (number-at text 0)) z in
+        inr (inl record { few = few; number-low = n .0; number-high = n .1; place-low = lit≤ tt; place-due = omega arith; refused = head-at text; earlier-pass = λ k b. absurd (omega arith) })
+
+    size : (t : Bool) → ltb textBytes (length text) ≡ t → Means text (cond t (rejected 1 0) (cond (eqb line 0) (bodyOf (textHead text) (after lineEnd text)) (rejected line 1)))
+    size true b = inl (refl, refl, ltb-true textBytes (length text) b)
+    size false b = first (ltb-false textBytes (length text) b) (eqb line 0) refl
+
+-- no text has two of these answers
+
+module _ (text : List ℕ) where
+  fails-pass : {X : Type 0} (number place : ℕ) → LineFails text number place → DuePass text → X
+  fails-pass number place f p = absurd (omega (arith, f .number-low, sym (f .refused) ∙ p .each (place - 1) (omega (arith, f .place-low, f .place-due))))
+
+  fails-later : {X : Type 0} (number place other later : ℕ) → LineFails text number place → LineFails text other later → place - 1 < later - 1 → X
+  fails-later number place other later f g b = absurd (omega (arith, f .number-low, sym (f .refused) ∙ g .earlier-pass (place - 1) b))
+
+  fails-once : (number place other later : ℕ) → LineFails text number place → LineFails text other later → rejected other later ≡ rejected number place
+  fails-once number place other later f g = go (decLe place later) (decLe later place)
+    where
+      go : Dec (place ≤ later) → Dec (later ≤ place) → rejected other later ≡ rejected number place
+      go (yes a) (yes b) =
+          let e : later ≡ place = omega arith in
+          ap₂ rejected (sym (g .refused) ∙ ap (λ (k : ℕ). refusalAt text (k - 1)) e ∙ f .refused) e
+      go (no a) b = fails-later other later number place g f (omega (arith, lt-of-not-le a, g .place-low))
+      go (yes a) (no b) = fails-later number place other later f g (omega (arith, lt-of-not-le b, f .place-low))
+
+  pub one-exactly : (parseOf text ≡ rejected 1 0) ↔ (textBytes < length text)
+  one-exactly = (there, too-long text)
+    where
+      there : parseOf text ≡ rejected 1 0 → textBytes < length text
+      there e = go (subst (Means text) e (parse-means text))
+        where
+          go : Means text (rejected 1 0) → textBytes < length text
+          go (inl s) = s .2
+          go (inr (inl f)) = absurd (omega (arith, f .number-low))
+          go (inr (inr b)) = absurd (omega (arith, b .0))
+
+  pub line-exactly : (number place : ℕ) → ((parseOf text ≡ rejected number place) × (2 ≤ number) × (number ≤ 6)) ↔ LineFails text number place
+  line-exactly number place = (there, λ f. (back f (parseOf text) (parse-means text), f .number-low, f .number-high))
+    where
+      there : (parseOf text ≡ rejected number place) × (2 ≤ number) × (number ≤ 6) → LineFails text number place
+      there e = go (subst (Means text) (e .0) (parse-means text))
+        where
+          go : Means text (rejected number place) → LineFails text number place
+          go (inl s) = absurd (omega (arith, e .1, s .0))
+          go (inr (inl f)) = f
+          go (inr (inr b)) = absurd (omega (arith, e .2, b .0))
+
+      back : LineFails text number place → (r : Parse) → Means text r → r ≡ rejected number place
+      back f (accepted n) m = fails-pass number place f (m .pass)
+      back f (rejected other later) (inl s) = absurd (omega (arith, f .few, s .2))
+      back f (rejected other later) (inr (inl g)) = fails-once number place other later f g
+      back f (rejected other later) (inr (inr b)) = fails-pass number place f (b .1 .pass)
+
+  pub seven-exactly : (place : ℕ) → (parseOf text ≡ rejected 7 place) ↔ BytesFollow text place
+  seven-exactly place = (there, λ b. back b (parseOf text) (parse-means text))
+    where
+      there : parseOf text ≡ rejected 7 place → BytesFollow text place
+      there e = go (subst (Means text) e (parse-means text))
+        where
+          go : Means text (rejected 7 place) → BytesFollow text place
+          go (inl s) = absurd (omega (arith, s .0))
+          go (inr (inl f)) = absurd (omega (arith, f .number-high))
+          go (inr (inr b)) = b .1
+
+      back : BytesFollow text place → (r : Parse) → Means text r → r ≡ rejected 7 place
+      back b (accepted n) m = absurd (omega (arith, b .bytes, ap length (m .all)))
+      back b (rejected other later) (inl s) = absurd (omega (arith, b .pass .few, s .2))
+      back b (rejected other later) (inr (inl f)) = fails-pass other later f (b .pass)
+      back b (rejected other later) (inr (inr c)) = ap₂ rejected (c .0) (c .1 .place-is ∙ sym (b .place-is))
+
+  pub none-exactly : ((n : Netlist) × (parseOf text ≡ accepted n)) ↔ NoneApplies text
+  none-exactly = (λ e. subst (Means text) (e .1) (parse-means text), λ a. back a (parseOf text) refl (parse-means text))
+    where
+      back : NoneApplies text → (r : Parse) → parseOf text ≡ r → Means text r → (n : Netlist) × (parseOf text ≡ accepted n)
+      back a (accepted n) e m = (n, e)
+      back a (rejected other later) e (inl s) = absurd (omega (arith, a .pass .few, s .2))
+      back a (rejected other later) e (inr (inl f)) = fails-pass other later f (a .pass)
+      back a (rejected other later) e (inr (inr b)) = absurd (omega (arith, b .1 .bytes, ap length (a .all)))
+
+-- the least that callers need of a refusal
 
 pub record OfLine (number place : ℕ) : Type 0 where
   pub number-low : 2 ≤ number
@@ -54,87 +255,27 @@ pub record OfLine (number place : ℕ) : Type 0 where
   pub place-low : 1 ≤ place
   pub place-high : place ≤ 86
 
-module _ (h : Head) (right : HeadRight h) (number place : ℕ) where
-  ended : (gates : List Gate) (outputs : List Output) (faults : List Fault) (rest : List ℕ) → endOf h gates outputs faults rest ≡ rejected number place → OfLine number place
-  unfolding endOf
-  ended gates outputs faults rest e = go (ltb 0 (length rest)) e
-    where
-      go : (t : Bool) → cond t (rejected 7 (h .gates + h .outputs + h .faults + 2)) (accepted (record { inputs = h .inputs; gates = gates; outputs = outputs; faults = faults; cap = h .cap })) ≡ rejected number place → OfLine number place
-      go true q =
-          let n : 7 ≡ number = ap rejectionNumber q in
-          let p : h .gates + h .outputs + h .faults + 2 ≡ place = ap rejectionPlace q in
-          let g = right .gates-high in
-          let o = right .outputs-high in
-          let f = right .faults-high in
-          record { number-low = omega arith; number-high = omega arith; place-low = omega arith; place-high = omega arith }
-      go false q = absurd (true≢false (ap isAccepted q))
-
-  -- a stage's refusal, or what comes behind it
-  stage : {A : Type 0} (refusal : ℕ → List ℕ → ℕ) (item : List ℕ → A) (left low : ℕ) (rest : List ℕ) (next : List A → List ℕ → Parse) → ((j : ℕ) (l : List ℕ) → LineNumber (refusal j l))
-      → 1 ≤ low → low + left ≤ 86 → ((l : List A) (end : List ℕ) → next l end ≡ rejected number place → OfLine number place)
-      → onRead (linesOf refusal item left low rest []) next ≡ rejected number place → OfLine number place
-  stage refusal item left low rest next each first last behind e = go (linesOf refusal item left low rest []) refl e
-    where
-      go : (r : Read _) → linesOf refusal item left low rest [] ≡ r → onRead r next ≡ rejected number place → OfLine number place
-      go (items l end) x q = behind l end q
-      go (lineRefused n p) x q =
-          let a = lines-refused refusal item each n p left low rest [] x in
-          let n′ : n ≡ number = ap rejectionNumber q in
-          let p′ : p ≡ place = ap rejectionPlace q in
-          record { number-low = omega (arith, a .number-low); number-high = omega (arith, a .number-high); place-low = omega (arith, a .place-low); place-high = omega (arith, a .place-high) }
-
-  in-body : (rest : List ℕ) → bodyOf h rest ≡ rejected number place → OfLine number place
-  unfolding bodyOf gatesIn outputsIn faultsIn
-  in-body rest e =
-      let g = right .gates-high in
-      let o = right .outputs-high in
-      let f = right .faults-high in
-      stage (nthGateRefusal (h .inputs)) gateOf (h .gates) 2 rest (λ gates r. onRead (outputsIn h r) (λ outputs r. onRead (faultsIn h r) (endOf h gates outputs)))
-      (λ j l. gate-number (h .inputs + j + 1) l) (lit≤ tt) (omega arith)
-      (λ gates r.
-      stage (nthOutputRefusal (h .inputs + h .gates)) outputOf (h .outputs) (h .gates + 2) r (λ outputs r. onRead (faultsIn h r) (endOf h gates outputs))
-      (λ j l. output-number (h .inputs + h .gates) l) (omega arith) (omega arith)
-      (λ outputs r.
-      stage (nthFaultRefusal (h .inputs + h .gates)) faultOf (h .faults) (h .gates + h .outputs + 2) r (endOf h gates outputs)
-      (λ j l. fault-number (h .inputs + h .gates) l) (omega arith) (omega arith)
-      (ended gates outputs)))
-      e
-
-short-refused : (text : List ℕ) (number place : ℕ) → ltb textBytes (length text) ≡ false → parseOf text ≡ rejected number place → OfLine number place
-unfolding parseOf unless
-short-refused text number place few e = go (eqb line 0) refl (rw few at e)
+few-due : (text : List ℕ) → refusalAt text 0 ≡ 0 → linesDue (textHead text) ≤ 85
+unfolding unless
+few-due text e = go (hasByte lineEnd text) (sym (head-at text) ∙ e)
   where
-    head : List ℕ
-    head = before lineEnd text
-
-    line : ℕ
-    line = lineRefusal headRefusal text
-
-    passed : (b : Bool) → eqb (unless b 2 (headRefusal head)) 0 ≡ true → headRefusal head ≡ 0
-    passed true z = eqb-true (headRefusal head) 0 z
-    passed false z = absurd (omega (arith, eqb-true 2 0 z))
-
-    go : (t : Bool) → eqb line 0 ≡ t → cond t (bodyOf (headOf head) (after lineEnd text)) (rejected line 1) ≡ rejected number place → OfLine number place
-    go true z q = in-body (headOf head) (head-fits head (passed (hasByte lineEnd text) z)) number place (after lineEnd text) q
-    go false z q =
-        let n : line ≡ number = ap rejectionNumber q in
-        let p : 1 ≡ place = ap rejectionPlace q in
-        let s = not-zero line (numbered (hasByte lineEnd text) 2 (headRefusal head) (lit≤ tt) (lit≤ tt) (head-number head)) z in
-        record { number-low = omega (arith, s .0); number-high = omega (arith, s .1); place-low = omega arith; place-high = omega arith }
+    go : (b : Bool) → unless b 2 (headRefusal (before lineEnd text)) ≡ 0 → linesDue (textHead text) ≤ 85
+    go true z = let h = head-fits (before lineEnd text) z in omega (arith, h .gates-high, h .outputs-high, h .faults-high)
+    go false z = absurd (omega arith)
 
 pub text-refused : (text : List ℕ) (number place : ℕ) → parseOf text ≡ rejected number place → ((number ≡ 1) × (place ≡ 0)) ⊎ OfLine number place
-text-refused text number place e = go (ltb textBytes (length text)) refl
+text-refused text number place e = go (subst (Means text) e (parse-means text))
   where
-    go : (t : Bool) → ltb textBytes (length text) ≡ t → ((number ≡ 1) × (place ≡ 0)) ⊎ OfLine number place
-    go true b = let q = sym e ∙ too-long text (ltb-true textBytes (length text) b) in inl (ap rejectionNumber q, ap rejectionPlace q)
-    go false b = inr (short-refused text number place b e)
+    high : (f : LineFails text number place) → Dec (place ≤ 1) → place ≤ 86
+    high f (yes one) = omega arith
+    high f (no more) = omega (arith, lt-of-not-le more, f .place-due, few-due text (f .earlier-pass 0 (omega (arith, lt-of-not-le more))))
 
-pub one-exactly : (text : List ℕ) → (parseOf text ≡ rejected 1 0) ↔ (textBytes < length text)
-one-exactly text = (there, too-long text)
-  where
-    there : parseOf text ≡ rejected 1 0 → textBytes < length text
-    there e = go (ltb textBytes (length text)) refl
-      where
-        go : (t : Bool) → ltb textBytes (length text) ≡ t → textBytes < length text
-        go true b = ltb-true textBytes (length text) b
-        go false b = let o = short-refused text 1 0 b e in absurd (omega (arith, o .number-low))
+    go : Means text (rejected number place) → ((number ≡ 1) × (place ≡ 0)) ⊎ OfLine number place
+    go (inl s) = inl (s .0, s .1)
+    go (inr (inl f)) = inr record { number-low = f .number-low; number-high = omega (arith, f .number-high); place-low = f .place-low; place-high = high f (decLe place 1) }
+    go (inr (inr b)) =
+        let d = few-due text (b .1 .pass .each 0 (omega arith)) in
+        inr record { number-low = omega (arith, b .0); number-high = omega (arith, b .0); place-low = omega (arith, b .1 .place-is); place-high = omega (arith, b .1 .place-is, d) }
+
+pub number-some : (text : List ℕ) (number place : ℕ) → parseOf text ≡ rejected number place → number ≡ 0 → ⊥
+number-some text number place e z = ⊎-elim (λ one. omega (arith, one .0, z)) (λ line. omega (arith, line .number-low, z)) (text-refused text number place e)

@@ -1,4 +1,5 @@
--- The text of a circuit, written field by field (document 01, "The circuit text"):
+-- The text of a circuit, written field by field; of a well-formed circuit it is accepted, and no other text is (proofs/AcceptedTexts `texts-exactly`).
+-- Document 01, "The circuit text":
 --   "Fields stand in fixed order, parted by commas, with no quoting. A line ends in one byte 0A hexadecimal, the last too." "The lines, in this order:"
 --   "`circuit,N,G,M,Q,K`: N inputs (1 to 8), G gates (0 to 48), M outputs (1 to 4), Q faults (1 to 32), cap K (1 to 4)."
 --   "G lines `gate,KIND,A,B`" "M lines `output,LINE,WEIGHT`" "Q lines `fault,LINE,VALUE`, with one to three LINE,VALUE pairs"
@@ -16,6 +17,10 @@ use Rattle.statements.specs.declared.Output.{Output}
 use Rattle.sections.specs.Sections.{eachLine}
 use Rattle.sections.specs.FaultLines.{faultLine}
 use Rattle.netlist.specs.Circuits.{Netlist}
+
+-- no circuit's text is longer: its first line has at most 20 bytes, 48 gates 16 each, 4 outputs 13 each and 32 faults 21 each
+abbrev pub circuitBytes : ℕ
+circuitBytes = 1512
 
 unfoldable pub headLine : Netlist → List ℕ
 headLine n =

@@ -1,4 +1,5 @@
 pub mod CircuitText
 pub mod Circuits
 pub mod Parsing
+pub mod Places
 pub mod WellFormed

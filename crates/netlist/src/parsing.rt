@@ -157,7 +157,7 @@ fn refused(number: u32, place: usize) -> Parsed
 // The lines behind the first, from `from` on.
 fn body(text: &[u8], from: usize, head: Head) -> Parsed
     requires { ⌜ (head .inputs ≤ 8) × (head .gates ≤ 48) × (head .outputs ≤ 4) × (head .faults ≤ 32) ⌝ }
-    ensures { λ r. ⌜ (meaning r ≡ bodyOf head (drop from (now (text .entry)))) × Sized (r .circuit) ⌝ }
+    ensures { λ r. ⌜ (meaning r ≡ bodyOf head (drop from (now (text .entry)))) × Sized (r .circuit) × (r .number ≡ 0 → r .place ≡ 0) ⌝ }
 {
     let top = head.inputs + head.gates;
     let g = gates(text, from, head.inputs, head.gates);
@@ -178,9 +178,10 @@ fn body(text: &[u8], from: usize, head: Head) -> Parsed
     let gates = g.gates;
     let outputs = o.outputs;
     let faults = f.faults;
+    let place: usize = 0;
     Parsed {
         number: 0,
-        place: 0,
+        place,
         circuit: Circuit {
             head,
             gates,
@@ -190,9 +191,9 @@ fn body(text: &[u8], from: usize, head: Head) -> Parsed
     }
 }
 
-// The circuit that a text states, or the text's refusal, 1 to 7 with its place.
+// The circuit that a text states, with place 0, or the text's refusal, 1 to 7 with its place.
 pub fn parse(text: &[u8]) -> Parsed
-    ensures { λ r. ⌜ (meaning r ≡ parseOf (now (text .entry))) × Sized (r .circuit) ⌝ }
+    ensures { λ r. ⌜ (meaning r ≡ parseOf (now (text .entry))) × Sized (r .circuit) × (r .number ≡ 0 → r .place ≡ 0) ⌝ }
 {
     if text::TEXT_BYTES < text.len() {
         return refused(1, 0);

@@ -1,5 +1,6 @@
 -- Demand 3:
 --   demand-three    for every accepted text and enough working numbers, the answer of the plan call is right
+--   right-verdict   the verdict on a well-formed circuit is right
 use mathlib.Core.Path.{_≡_, refl, sym, ap, _∙_, subst}
 use mathlib.Core.Bool.{Bool, true, false, cond}
 use mathlib.Core.List.{List, []}
@@ -128,6 +129,7 @@ module _ (n : Netlist) (w : WellFormed n) where
         let some : SomeSilent n = (suc (silentFirst n), silent-named, silent-one) in
         record {
           planned-exactly = (λ e. absurd (omega (arith, e)), λ p. absurd (hidden some p));
+          plan-place = λ e. absurd (omega (arith, e));
           plan-shows = λ e. absurd (omega (arith, e));
           plan-size = λ e. absurd (omega (arith, e));
           plan-within = λ e. absurd (omega (arith, e));
@@ -137,6 +139,7 @@ module _ (n : Netlist) (w : WellFormed n) where
           silent-exactly = (λ e. some, λ p. refl);
           silent-first = λ e. (silent-named, silent-one, silent-least);
           unplanned-exactly = (λ e. absurd (omega (arith, e)), λ p. absurd (p .1 some));
+          unplanned-place = λ e. absurd (omega (arith, e));
           no-other = inr (inl refl);
           rest-zero = rest-none [];
           refused-zero = λ e. (refl, refl);
@@ -164,6 +167,7 @@ module _ (n : Netlist) (w : WellFormed n) where
       right-planned =
           record {
             planned-exactly = (λ z. (xs, xs-shows, found .2), λ p. refl);
+            plan-place = λ z. refl;
             plan-shows = λ z. subst (Shows n) (sym as-returned) xs-shows;
             plan-size = λ z. ap length as-returned;
             plan-within = λ z. found .2;
@@ -176,6 +180,7 @@ module _ (n : Netlist) (w : WellFormed n) where
             silent-exactly = (λ z. absurd (omega (arith, z)), λ q. absurd (none-silent q));
             silent-first = λ z. absurd (omega (arith, z));
             unplanned-exactly = (λ z. absurd (omega (arith, z)), λ q. absurd (q .0 (xs, xs-shows, found .2)));
+            unplanned-place = λ z. absurd (omega (arith, z));
             no-other = inl refl;
             rest-zero = rest-none xs;
             refused-zero = λ z. absurd (z refl);
@@ -189,6 +194,7 @@ module _ (n : Netlist) (w : WellFormed n) where
       right-unplanned =
           record {
             planned-exactly = (λ z. absurd (omega (arith, z)), λ p. absurd (impossible p));
+            plan-place = λ z. absurd (omega (arith, z));
             plan-shows = λ z. absurd (omega (arith, z));
             plan-size = λ z. absurd (omega (arith, z));
             plan-within = λ z. absurd (omega (arith, z));
@@ -198,12 +204,13 @@ module _ (n : Netlist) (w : WellFormed n) where
             silent-exactly = (λ z. absurd (omega (arith, z)), λ q. absurd (none-silent q));
             silent-first = λ z. absurd (omega (arith, z));
             unplanned-exactly = (λ z. (impossible, none-silent), λ q. refl);
+            unplanned-place = λ z. refl;
             no-other = inr (inr refl);
             rest-zero = rest-none [];
             refused-zero = λ z. (refl, refl);
           }
 
-  right-verdict : Right n (planNumbers (verdictOf n))
+  pub right-verdict : Right n (planNumbers (verdictOf n))
   unfolding verdictOf
   right-verdict = go (ltb (silentFirst n) (length (n .faults))) refl (signatureOf S F (n .cap)) refl
     where

@@ -42,6 +42,7 @@ returned a = take (a .size) (a .labels)
 
 pub record Right (n : Netlist) (a : Planned) : Type 0 where
   pub planned-exactly : (a .number ≡ 0) ↔ Possible n
+  pub plan-place : a .number ≡ 0 → a .place ≡ 0
   pub plan-shows : a .number ≡ 0 → Shows n (returned a)
   pub plan-size : a .number ≡ 0 → length (returned a) ≡ a .size
   pub plan-within : a .number ≡ 0 → a .size ≤ n .cap
@@ -51,6 +52,7 @@ pub record Right (n : Netlist) (a : Planned) : Type 0 where
   pub silent-exactly : (a .number ≡ 13) ↔ SomeSilent n
   pub silent-first : a .number ≡ 13 → Named n (a .place) × Silent n (a .place) × ((f : ℕ) → 1 ≤ f → f < a .place → Silent n f → ⊥)
   pub unplanned-exactly : (a .number ≡ 14) ↔ ((Possible n → ⊥) × (SomeSilent n → ⊥))
+  pub unplanned-place : a .number ≡ 14 → a .place ≡ 0
   pub no-other : (a .number ≡ 0) ⊎ ((a .number ≡ 13) ⊎ (a .number ≡ 14))
   pub rest-zero : (i : ℕ) → a .size ≤ i → getD (a .labels) i 0 ≡ 0
   pub refused-zero : (a .number ≡ 0 → ⊥) → (a .size ≡ 0) × (a .labels ≡ 0 ∷ 0 ∷ 0 ∷ 0 ∷ [])

@@ -2,8 +2,10 @@
 --   count-power    of 2 ^ n rows, where the mask is below 2 ^ n and the values lie within it, 2 ^ k: each fixed input takes one from n
 --   count-all      all of them, where no input is fixed
 --   count-one      one, where every input is
-use mathlib.Core.Bool.{Bool, true, false, cond}
-use mathlib.Core.Logic.{⊎-elim}
+-- Which rows agree:
+--   agrees-exactly    those that have the given values at the inputs of the mask
+use mathlib.Core.Bool.{Bool, true, false, cond, _&&_, and-true, and-false}
+use mathlib.Core.Logic.{_↔_, ⊎-elim}
 use mathlib.Core.Path.{_≡_, refl, sym, ap, ap₂, _∙_, subst}
 use Prim.Native.Nat.{ℕ, zero, suc, _+_, _-_, _^_, _≤_, _<_}
 use native.Mathlib.Nat.{add-assoc, add-suc, add-zero, zero-add, lt-of-le-of-lt, one-mul}
@@ -13,6 +15,8 @@ use lib.Count.{ones, ones-cat, ones-ones}
 use lib.Dec.{eqb}
 use lib.Pow.{pow-pos}
 use borrow.Author.Tests.{eq-eqb, ne-eqb, eqb-true, eqb-false}
+use Rattle.integer.specs.Mask.{bit}
+use Rattle.integer.proofs.Masks.{bit-and, same-bits}
 use Rattle.integer.proofs.Halves.{double, which, block}
 use Rattle.reading.specs.Readings.{agrees, countTo, countOf}
 
@@ -156,3 +160,19 @@ count-one n values e =
     let p = count-power n (2 ^ n - 1) values (let h = pow-pos n in omega arith) e in
     let none : p .free ≡ 0 = omega (arith, p .inputs, ones-ones n) in
     p .is ∙ ap (λ (k : ℕ). 2 ^ k) none
+
+-- ---- which rows agree
+
+pub agrees-exactly : (mask values row : ℕ) → bitAnd values mask ≡ values → (agrees mask values row ≡ true) ↔ ((f : ℕ) → bit mask f ≡ true → bit row f ≡ bit values f)
+unfolding agrees
+agrees-exactly mask values row within = (there, back)
+  where
+    there : eqb (bitAnd row mask) values ≡ true → (f : ℕ) → bit mask f ≡ true → bit row f ≡ bit values f
+    there e f m = sym (and-true (bit row f)) ∙ ap (λ (t : Bool). bit row f && t) (sym m) ∙ sym (bit-and row mask f) ∙ ap (λ (k : ℕ). bit k f) (eqb-true (bitAnd row mask) values e)
+
+    back : ((f : ℕ) → bit mask f ≡ true → bit row f ≡ bit values f) → eqb (bitAnd row mask) values ≡ true
+    back h = eq-eqb (bitAnd row mask) values (same-bits (bitAnd row mask) values (λ f. bit-and row mask f ∙ each f (bit mask f) refl ∙ sym (bit-and values mask f) ∙ ap (λ (k : ℕ). bit k f) within))
+      where
+        each : (f : ℕ) (t : Bool) → bit mask f ≡ t → (bit row f && bit mask f) ≡ (bit values f && bit mask f)
+        each f true e = ap (λ (b : Bool). b && bit mask f) (h f e)
+        each f false e = rw (e, and-false, and-false)

@@ -1,1 +1,2 @@
 pub mod ReportCall
+pub mod Printed

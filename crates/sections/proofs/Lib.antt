@@ -1,5 +1,6 @@
 pub mod FaultsRight
 pub mod FaultsWritten
 pub mod LineLoops
+pub mod LinesOnly
 pub mod LinesRead
 pub mod LinesWritten

@@ -1,21 +1,22 @@
 -- What lines one after the other show, by how they are answered:
 --   Says, Said, lines-said    lines that are read are each accepted by their own tests
---   Among, lines-refused      lines that are refused: the number is 2 to 6, and the place that of one of them
+--   lines-further             the text behind m lines and k more
+--   Passed, lines-passed      each of them passes its own test, and what follows is the text behind them
+--   Stopped, lines-stopped    lines that are refused: the first that is, with its number, and its place counted from that of the first line
 use mathlib.Core.Path.{_≡_, refl, sym, ap, _∙_, subst, subst⁻¹}
 use mathlib.Core.Bool.{Bool, true, false, cond, true≢false, false≢true}
 use mathlib.Core.List.{List, [], _∷_, _++_}
 use Prim.Native.Nat.{ℕ, zero, suc, _+_, _<_, _≤_}
-use native.Mathlib.Nat.{add-zero, lt-of-not-le}
+use native.Mathlib.Nat.{add-zero, zero-add, lt-of-not-le}
 use native.Mathlib.Decide.{decLe}
 use native.Mathlib.Omega.{arith}
-use lib.Dec.{eqb, ltb, lit≤}
+use lib.Dec.{eqb, ltb}
 use lib.ListN.{length, getD, length-append, List·getD-append}
 use lib.Seq.{getD-append-seam}
-use borrow.Author.Tests.{eqb-true}
-use Rattle.text.specs.Text.{before, after, lineEnd, indexOf, hasByte}
+use borrow.Author.Tests.{eqb-true, eqb-false}
+use Rattle.text.specs.Text.{before, after, lineEnd, indexOf}
 use Rattle.fields.specs.Fields.{unless}
-use Rattle.fields.proofs.Chains.{LineNumber, numbered, not-zero}
-use Rattle.sections.specs.Sections.{Read, items, lineRefused, lineRefusal, linesOf}
+use Rattle.sections.specs.Sections.{Read, items, lineRefused, lineRefusal, linesFrom, linesOf}
 
 abbrev itemsOf : {A : Type 0} → Read A → List A
 itemsOf (items l rest) = l
@@ -80,31 +81,103 @@ abbrev placeIn : {A : Type 0} → Read A → ℕ
 placeIn (items l rest) = 0
 placeIn (lineRefused number place) = place
 
-pub record Among (number place low count : ℕ) : Type 0 where
-  pub number-low : 2 ≤ number
-  pub number-high : number ≤ 6
-  pub place-low : low ≤ place
-  pub place-high : place < low + count
+abbrev restIn : {A : Type 0} → Read A → List ℕ
+restIn (items l rest) = rest
+restIn (lineRefused number place) = []
 
-module _ {A : Type 0} (refusal : ℕ → List ℕ → ℕ) (item : List ℕ → A) (each : (j : ℕ) (l : List ℕ) → LineNumber (refusal j l)) (number place : ℕ) where
-  pub lines-refused : (left low : ℕ) (rest : List ℕ) (read : List A) → linesOf refusal item left low rest read ≡ lineRefused number place → Among number place low left
-  unfolding linesOf
-  lines-refused zero low rest read e = absurd (true≢false (ap isRead e))
-  lines-refused (suc left) low rest read e = go (eqb line 0) refl (lines-refused left (suc low) (after lineEnd rest) more) e
-    where
-      line : ℕ
-      line = lineRefusal (refusal (length read)) rest
+pub lines-further : (m k : ℕ) (text : List ℕ) → linesFrom k (linesFrom m text) ≡ linesFrom (m + k) text
+unfolding linesFrom
+lines-further zero k text = ap (λ (i : ℕ). linesFrom i text) (sym (zero-add k))
+lines-further (suc m) k text =
+    let e : suc (m + k) ≡ suc m + k = omega arith in
+    lines-further m k (after lineEnd text) ∙ ap (λ (i : ℕ). linesFrom i text) e
 
-      more : List A
-      more = read ++ (item (before lineEnd rest) ∷ [])
+module _ (refusal : ℕ → List ℕ → ℕ) where
+  -- the line of `rest` behind k others passes, where `from` lines of its kind stand before `rest`
+  abbrev pub PassesAt : ℕ → List ℕ → ℕ → Type 0
+  PassesAt from rest k = lineRefusal (refusal (from + k)) (linesFrom k rest) ≡ 0
 
-      go : (t : Bool) → eqb line 0 ≡ t → (linesOf refusal item left (suc low) (after lineEnd rest) more ≡ lineRefused number place → Among number place (suc low) left)
-          → cond t (linesOf refusal item left (suc low) (after lineEnd rest) more) (lineRefused line low) ≡ lineRefused number place → Among number place low (suc left)
-      go true z ih q =
-          let r = ih q in
-          record { number-low = r .number-low; number-high = r .number-high; place-low = omega (arith, r .place-low); place-high = omega (arith, r .place-high) }
-      go false z ih q =
-          let n : line ≡ number = ap numberIn q in
-          let p : low ≡ place = ap placeIn q in
-          let s = not-zero line (numbered (hasByte lineEnd rest) 2 (refusal (length read) (before lineEnd rest)) (lit≤ tt) (lit≤ tt) (each (length read) (before lineEnd rest))) z in
-          record { number-low = omega (arith, s .0); number-high = omega (arith, s .1); place-low = omega arith; place-high = omega arith }
+  abbrev Passing : ℕ → List ℕ → ℕ → Type 0
+  Passing from rest count = (k : ℕ) → k < count → PassesAt from rest k
+
+  pub record Passed (from : ℕ) (rest : List ℕ) (count : ℕ) (end : List ℕ) : Type 0 where
+    pub passing : Passing from rest count
+    pub end-is : end ≡ linesFrom count rest
+
+  -- the first line that is refused, behind `lines` others
+  pub record Stopped (from : ℕ) (rest : List ℕ) (count low number place : ℕ) : Type 0 where
+    pub lines : ℕ
+    pub within : lines < count
+    pub place-is : place ≡ low + lines
+    pub refused : lineRefusal (refusal (from + lines)) (linesFrom lines rest) ≡ number
+    pub some : number ≡ 0 → ⊥
+    pub passing : Passing from rest lines
+
+  -- the first line passes, and so do those behind it
+  passing-cons : (from count : ℕ) (rest : List ℕ) → lineRefusal (refusal from) rest ≡ 0 → Passing (from + 1) (after lineEnd rest) count → Passing from rest (suc count)
+  unfolding linesFrom
+  passing-cons from count rest first p zero h = ap (λ (i : ℕ). lineRefusal (refusal i) rest) (add-zero from) ∙ first
+  passing-cons from count rest first p (suc k) h =
+      let e : from + suc k ≡ from + 1 + k = omega arith in
+      ap (λ (i : ℕ). lineRefusal (refusal i) (linesFrom k (after lineEnd rest))) e ∙ p k (omega arith)
+
+  module _ {A : Type 0} (item : List ℕ → A) where
+    pub lines-passed : (left place : ℕ) (rest : List ℕ) (read l : List A) (end : List ℕ) → linesOf refusal item left place rest read ≡ items l end → Passed (length read) rest left end
+    unfolding linesOf linesFrom
+    lines-passed zero place rest read l end e = record { passing = λ k h. absurd (omega arith); end-is = sym (ap restIn e) }
+    lines-passed (suc left) place rest read l end e = go (eqb line 0) refl (lines-passed left (suc place) (after lineEnd rest) more l end) e
+      where
+        line : ℕ
+        line = lineRefusal (refusal (length read)) rest
+
+        more : List A
+        more = read ++ (item (before lineEnd rest) ∷ [])
+
+        go : (t : Bool) → eqb line 0 ≡ t → (linesOf refusal item left (suc place) (after lineEnd rest) more ≡ items l end → Passed (length more) (after lineEnd rest) left end)
+            → cond t (linesOf refusal item left (suc place) (after lineEnd rest) more) (lineRefused line place) ≡ items l end → Passed (length read) rest (suc left) end
+        go true z ih q =
+            let r = ih q in
+            record {
+              passing = passing-cons (length read) left rest (eqb-true line 0 z) (subst (λ (k : ℕ). Passing k (after lineEnd rest) left) (length-append read (item (before lineEnd rest) ∷ [])) (r .passing));
+              end-is = r .end-is;
+            }
+        go false z ih q = absurd (false≢true (ap isRead q))
+
+    pub lines-stopped : (number place left low : ℕ) (rest : List ℕ) (read : List A) → linesOf refusal item left low rest read ≡ lineRefused number place → Stopped (length read) rest left low number place
+    unfolding linesOf linesFrom
+    lines-stopped number place zero low rest read e = absurd (true≢false (ap isRead e))
+    lines-stopped number place (suc left) low rest read e = go (eqb line 0) refl (lines-stopped number place left (suc low) (after lineEnd rest) more) e
+      where
+        line : ℕ
+        line = lineRefusal (refusal (length read)) rest
+
+        more : List A
+        more = read ++ (item (before lineEnd rest) ∷ [])
+
+        long : length more ≡ length read + 1
+        long = length-append read (item (before lineEnd rest) ∷ [])
+
+        go : (t : Bool) → eqb line 0 ≡ t
+            → (linesOf refusal item left (suc low) (after lineEnd rest) more ≡ lineRefused number place → Stopped (length more) (after lineEnd rest) left (suc low) number place)
+            → cond t (linesOf refusal item left (suc low) (after lineEnd rest) more) (lineRefused line low) ≡ lineRefused number place → Stopped (length read) rest (suc left) low number place
+        go true z ih q =
+            let r = ih q in
+            let e : length read + suc (r .lines) ≡ length more + r .lines = omega (arith, long) in
+            record {
+              lines = suc (r .lines);
+              within = omega (arith, r .within);
+              place-is = omega (arith, r .place-is);
+              refused = ap (λ (i : ℕ). lineRefusal (refusal i) (linesFrom (r .lines) (after lineEnd rest))) e ∙ r .refused;
+              some = r .some;
+              passing = passing-cons (length read) (r .lines) rest (eqb-true line 0 z) (subst (λ (k : ℕ). Passing k (after lineEnd rest) (r .lines)) long (r .passing));
+            }
+        go false z ih q =
+            let n : line ≡ number = ap numberIn q in
+            record {
+              lines = 0;
+              within = omega arith;
+              place-is = sym (ap placeIn q) ∙ sym (add-zero low);
+              refused = ap (λ (i : ℕ). lineRefusal (refusal i) rest) (add-zero (length read)) ∙ n;
+              some = λ e. eqb-false line 0 z (n ∙ e);
+              passing = λ k h. absurd (omega arith);
+            }

@@ -31,6 +31,11 @@ linesOf refusal item (suc left) place rest read =
 unfoldable pub readOf : {A : Type 0} → List ℕ → ℕ → ℕ → ℕ → ℕ → List A → Read A
 readOf text count number place at l = cond (eqb number 0) (items (take count l) (drop at text)) (lineRefused number place)
 
+-- the text behind its first k lines
+unfoldable pub linesFrom : ℕ → List ℕ → List ℕ
+linesFrom zero text = text
+linesFrom (suc k) text = linesFrom k (after lineEnd text)
+
 -- as they are written: a line for each item; `none` is what is read past the last
 unfoldable pub eachLine : {A : Type 0} → (A → List ℕ) → A → List A → List ℕ
 eachLine line none l = gather (λ i. line (getD l i none)) (length l)

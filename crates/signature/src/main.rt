@@ -2,12 +2,13 @@
 use libc::STDIN_FILENO;
 use libc::STDOUT_FILENO;
 ghost use mathlib.Core.Path.{_≡_};
-ghost use Prim.Native.Nat.{_≤_};
+ghost use Prim.Native.Nat.{_+_, _≤_};
 ghost use lib.ListN.{length, take};
 ghost use Rattle.io.specs.Counts.{Counts};
 ghost use Rattle.planner.specs.PlanCall.{workingNumbers};
 ghost use Rattle.report_lines.specs.ReportLines.{reportBytes};
 ghost use Rattle.report.specs.ReportCall.{reportOf};
+ghost use Rattle.text.specs.Text.{textBytes};
 
 // The report on the text, at the front of `out`, and how many bytes it has.
 fn written(text: &[u8], out: &mut [u8], work: &mut [u32]) -> usize
@@ -25,8 +26,9 @@ fn print(report: &[u8], text: &[u8]) -> bool
     io::write_all(STDOUT_FILENO, report)
 }
 
-// Reads one byte more than a text may have, so that a longer input is refused by its length and never cut to a text that passes.
+// Asks for room for one byte more than a text may have, and fills it, so that a longer input is refused by its length and never cut to a text that passes.
 fn answer(text: &mut [u8], out: &mut [u8], work: &mut [u32]) -> bool
+    requires { ⌜ textBytes + 1 ≤ length (now text) ⌝ }
     requires { ⌜ (reportBytes ≤ length (now out)) × (workingNumbers ≤ length (now work)) ⌝ }
 {
     let length = io::read_full(STDIN_FILENO, text);
@@ -35,7 +37,7 @@ fn answer(text: &mut [u8], out: &mut [u8], work: &mut [u32]) -> bool
 }
 
 fn main() {
-    let mut text = [0u8; 16385];
+    let mut text = [0u8; text::TEXT_BYTES + 1];
     let mut out = [0u8; report::REPORT_BYTES];
     let mut work = [0u32; planner::WORKING_NUMBERS];
     answer(&mut text, &mut out, &mut work);

@@ -1,1 +1,3 @@
 pub mod SecondLines
+pub mod LineNumbers
+pub mod FormsMeant

@@ -3,7 +3,7 @@
 -- A field that is no number, or is not there, counts as 0 where its value is asked; a line with a bad number is refused before that matters.
 use Prim.Native.Nat.{ℕ, suc, _-_}
 use mathlib.Core.Bool.{Bool, _&&_, _||_}
-use mathlib.Core.List.{List}
+use mathlib.Core.List.{List, [], _∷_}
 use lib.Dec.{eqb, leb, ltb}
 use lib.IntN.{pos}
 use Rattle.text.specs.Text.{bytesOf, fieldOf, fieldCount}
@@ -116,3 +116,16 @@ pairAt l k = record { line = valueAt l k; value = eqb (valueAt l (suc k)) 1 }
 
 unfoldable pub faultOf : List ℕ → Fault
 faultOf l = record { first = pairAt l 1; second = pairAt l 3; third = pairAt l 5 }
+
+-- The tests of a line with their numbers, in no order that matters: the number of a line is the least of one that fails (proofs/LineNumbers).
+abbrev pub headTests : List ℕ → List (ℕ × Bool)
+headTests l = (2, isHead l) ∷ (3, headFits l) ∷ []
+
+abbrev pub gateTests : ℕ → List ℕ → List (ℕ × Bool)
+gateTests own l = (2, isGate l) ∷ (3, gateFits l) ∷ (4, readsBelow own l) ∷ []
+
+abbrev pub outputTests : ℕ → List ℕ → List (ℕ × Bool)
+outputTests top l = (2, isOutput l) ∷ (3, outputFits l) ∷ (5, leb (valueAt l 1) top) ∷ []
+
+abbrev pub faultTests : ℕ → List ℕ → List (ℕ × Bool)
+faultTests top l = (2, isFault l) ∷ (3, faultFits l) ∷ (5, linesExist top l) ∷ (6, linesRise l) ∷ []

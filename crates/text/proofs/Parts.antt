@@ -1,24 +1,26 @@
 -- Laws of the first b of a list and of fields:
 --   index-le         the first b stands within the list or at its end
+--   split-first      a list is what stands before its first b, that b, and what stands after it
 --   cut-before, cut-after, cut-has, cut-none
 --                    a scan from `at` that stops at e, the first b from there on: what it cuts off, what it leaves, whether there was a b
 --   field-part, field-within    field k is the part of the list that starts at its index
+--   only-field, first-parted    a list is its only field, or its first field, a comma, and what stands after it
 --   no-field         where there is no field k it is the empty part at the list's end
 --   span-within, span-field     the same for the two ends that `locate` hands back
 --   index-hit, index-miss, index-end, count-hit, count-miss, count-end, rest-next, rest-past, rest-here
 --                    what one turn of a loop shows
 use mathlib.Core.Path.{_≡_, refl, sym, ap, _∙_}
 use mathlib.Core.Bool.{Bool, true, false, cond}
-use mathlib.Core.List.{List, [], _∷_}
+use mathlib.Core.List.{List, [], _∷_, _++_}
 use Prim.Native.Nat.{ℕ, zero, suc, _+_, _-_, _<_, _≤_, zero-le}
 use native.Mathlib.Nat.{zero-add, sub-zero, lt-of-not-le}
 use native.Mathlib.Decide.{decLe}
 use native.Mathlib.Numerals.{add-one}
 use native.Mathlib.Omega.{arith}
 use lib.ListN.{length, take, drop, getD, length-drop, drop-of-length-le}
-use lib.Seq.{drop-cons, drop-drop, length-take-le}
+use lib.Seq.{drop-cons, drop-drop, length-take-le, take-all}
 use lib.Dec.{eqb}
-use borrow.Author.Tests.{eq-eqb, ne-eqb, lt-ltb, le-ltb}
+use borrow.Author.Tests.{eq-eqb, ne-eqb, eqb-true, lt-ltb, le-ltb}
 use Rattle.text.specs.Text.{comma, indexOf, before, after, hasByte, fieldOf, fieldStart, fieldCount}
 
 -- the list from i is the element at i and the list from i + 1
@@ -33,6 +35,17 @@ index-le b (x ∷ l) = by (eqb x b) (index-le b l)
     by : (t : Bool) → indexOf b l ≤ length l → cond t zero (suc (indexOf b l)) ≤ suc (length l)
     by true h = zero-le
     by false h = omega arith
+
+pub split-first : (b : ℕ) (l : List ℕ) → indexOf b l < length l → l ≡ before b l ++ (b ∷ after b l)
+unfolding indexOf before after
+split-first b [] h = absurd (omega arith)
+split-first b (x ∷ l) h = by (eqb x b) refl (split-first b l) h
+  where
+    by : (t : Bool) → eqb x b ≡ t → (indexOf b l < length l → l ≡ take (indexOf b l) l ++ (b ∷ drop (suc (indexOf b l)) l))
+        → cond t zero (suc (indexOf b l)) < suc (length l)
+        → x ∷ l ≡ take (cond t zero (suc (indexOf b l))) (x ∷ l) ++ (b ∷ drop (suc (cond t zero (suc (indexOf b l)))) (x ∷ l))
+    by true e ih h = ap (λ (y : ℕ). y ∷ l) (eqb-true x b e)
+    by false e ih h = ap (λ (m : List ℕ). x ∷ m) (ih (omega arith))
 
 -- a scan for b that has come to i
 module _ (b : ℕ) (l : List ℕ) (i : ℕ) where
@@ -163,6 +176,35 @@ count-suc (x ∷ l) h = by (eqb x comma) (count-suc l) h
         → cond t (suc (fieldCount l)) (fieldCount l) ≡ suc (fieldCount (drop (suc (cond t zero (suc (indexOf comma l)))) (x ∷ l)))
     by true ih h = refl
     by false ih h = ih (omega arith)
+
+-- without a comma it is one field
+one-count : (l : List ℕ) → length l ≤ indexOf comma l → fieldCount l ≡ 1
+unfolding fieldCount indexOf
+one-count [] h = refl
+one-count (x ∷ l) h = by (eqb x comma) (one-count l) h
+  where
+    by : (t : Bool) → (length l ≤ indexOf comma l → fieldCount l ≡ 1) → suc (length l) ≤ cond t zero (suc (indexOf comma l))
+        → cond t (suc (fieldCount l)) (fieldCount l) ≡ 1
+    by true ih h = absurd (omega arith)
+    by false ih h = ih (omega arith)
+
+-- a list of one field, and one of more
+module _ (l : List ℕ) where
+  pub only-field : fieldCount l ≡ 1 → l ≡ fieldOf l 0
+  unfolding fieldOf before
+  only-field e = go (decLe (length l) (indexOf comma l))
+    where
+      go : Dec (length l ≤ indexOf comma l) → l ≡ before comma l
+      go (yes none) = sym (take-all (indexOf comma l) l none)
+      go (no some) = absurd (omega (arith, e, count-suc l (lt-of-not-le some), some-field (after comma l)))
+
+  pub first-parted : 1 < fieldCount l → (fieldCount l ≡ suc (fieldCount (after comma l))) × (l ≡ fieldOf l 0 ++ (comma ∷ after comma l))
+  unfolding fieldOf
+  first-parted h = go (decLe (length l) (indexOf comma l))
+    where
+      go : Dec (length l ≤ indexOf comma l) → (fieldCount l ≡ suc (fieldCount (after comma l))) × (l ≡ before comma l ++ (comma ∷ after comma l))
+      go (yes none) = absurd (omega (arith, h, one-count l none))
+      go (no some) = (count-suc l (lt-of-not-le some), split-first comma l (lt-of-not-le some))
 
 pub no-field : (l : List ℕ) (k : ℕ) → fieldCount l ≤ k → (fieldOf l k ≡ []) × (fieldStart l k ≡ length l)
 no-field l zero h = absurd (omega (arith, some-field l))

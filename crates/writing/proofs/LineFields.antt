@@ -3,26 +3,27 @@
 --   word-field, number-field, line-count    its fields: the word, where that has no comma, then each number; how many there are
 --   next-field, next-count                  the fields behind a word and a comma
 --   natural-read                            a natural number below 10,000 is read as itself
---   line-short                              how long a line of such numbers is
+--   AtMost, most-small, line-longest        numbers that are at most some others: below 10,000 where those are, and a line of them is no longer
 --   gather-cons                             texts one behind the other, by the first of them
 use mathlib.Core.Path.{_≡_, refl, sym, ap, _∙_}
 use mathlib.Core.Bool.{Bool, true, false, cond, _&&_}
 use mathlib.Core.List.{List, [], _∷_, _++_, append-assoc, append-nil, map}
-use Prim.Native.Nat.{ℕ, zero, suc, _+_, _*_, _<_, _≤_}
+use Prim.Native.Nat.{ℕ, zero, suc, _+_, _<_, _≤_}
 use native.Mathlib.Omega.{arith}
-use lib.Dec.{eqb, leb}
+use lib.Dec.{eqb, leb, ltb}
 use lib.IntN.{ℤ, pos, natAbs}
 use lib.ListN.{length, drop, getD, length-append, length-map, List·getD-map}
 use lib.Seq.{take-append-seam, take-length, drop-append-add}
 use lib.Signed.{ltZ}
-use borrow.Author.Tests.{lt-ltb, le-ltb, eq-eqb, ne-eqb, leb-true}
-use Rattle.integer.proofs.Bools.{both}
+use borrow.Author.Tests.{lt-ltb, eq-eqb, ne-eqb, leb-true, ltb-false}
+use Rattle.integer.proofs.Bools.{both, neither}
+use Rattle.integer.specs.ListTests.{any}
 use Rattle.integer.specs.Tab.{nth}
 use Rattle.text.specs.Text.{comma, lineEnd, indexOf, before, after, hasByte, fieldOf, fieldCount, digits, numberOf}
 use Rattle.text.specs.declared.Number.the-variants.{Value}
-use Rattle.writing.specs.Writing.{decimalOf, minusSign, integerOf, gather, numberField, numbersOf, lineOf}
-use Rattle.writing.proofs.ReadBack.{digits-only, read-back}
-use Rattle.writing.proofs.Writings.{unsigned, natural-length, gather-length, line-long}
+use Rattle.writing.specs.Writing.{Small, decimalOf, minusSign, integerOf, gather, numberField, numbersOf, lineOf}
+use Rattle.writing.proofs.ReadBack.{digits-only, read-back, decimal-rises}
+use Rattle.writing.proofs.Writings.{natural-written, line-long}
 
 -- ---- texts without some byte
 
@@ -122,11 +123,11 @@ pub next-count : (word rest : List ℕ) → Lacks comma word → fieldCount (wor
 unfolding fieldCount
 next-count word rest lacks = count-behind word (comma ∷ rest) lacks
 
-numbers-cons : (z : ℤ) (numbers : List ℤ) → numbersOf (z ∷ numbers) ≡ comma ∷ (integerOf z ++ numbersOf numbers)
+pub numbers-cons : (z : ℤ) (numbers : List ℤ) → numbersOf (z ∷ numbers) ≡ comma ∷ (integerOf z ++ numbersOf numbers)
 unfolding numbersOf numberField
 numbers-cons z numbers = gather-cons (numberField (z ∷ numbers)) (length numbers)
 
-no-numbers : (word : List ℕ) → word ++ numbersOf [] ≡ word
+pub no-numbers : (word : List ℕ) → word ++ numbersOf [] ≡ word
 unfolding numbersOf gather
 no-numbers word = append-nil word
 
@@ -181,12 +182,7 @@ module _ (word : List ℕ) (numbers : List ℤ) (rest : List ℕ) (lacks : Lacks
 -- ---- natural numbers of at most four digits
 
 pub natural-read : (n : ℕ) → n < 10000 → numberOf (integerOf (pos n)) ≡ Value n
-natural-read n h = ap numberOf (unsigned n (pos n) refl (le-ltb n 0 (omega arith))) ∙ read-back n h
-
--- each number is below 10,000
-abbrev pub Small : List ℕ → Type 0
-Small [] = Unit
-Small (n ∷ ns) = (n < 10000) × Small ns
+natural-read n h = ap numberOf (natural-written n) ∙ read-back n h
 
 small-at : (ns : List ℕ) → Small ns → (k : ℕ) → k < length ns → getD ns k 0 < 10000
 small-at [] s k h = absurd (omega arith)
@@ -202,9 +198,34 @@ module _ (word : List ℕ) (ns : List ℕ) (small : Small ns) where
       ap numberOf (number-field word (map pos ns) k lacks (omega (arith, length-map ns pos)) ∙ ap integerOf (number-at k))
       ∙ natural-read (getD ns k 0) (small-at ns small k h)
 
-  pub line-short : length (lineOf word (map pos ns)) ≤ length word + length ns * 5 + 1
-  unfolding numbersOf numberField
-  line-short = omega (arith, line-long word (map pos ns), gather-length 5 (numberField (map pos ns)) (length (map pos ns)) each, ap (λ (k : ℕ). k * 5) (length-map ns pos))
-    where
-      each : (i : ℕ) → i < length (map pos ns) → length (numberField (map pos ns) i) ≤ 5
-      each i h = omega (arith, natural-length 3 (getD ns i 0) (small-at ns small i (omega (arith, length-map ns pos))), ap (λ (z : ℤ). length (integerOf z)) (number-at i))
+-- no more numbers than in `most`, each at most the one at its place
+abbrev pub AtMost : List ℕ → List ℕ → Type 0
+AtMost most [] = Unit
+AtMost [] (n ∷ ns) = ⊥
+AtMost (m ∷ most) (n ∷ ns) = (n ≤ m) × AtMost most ns
+
+pub most-small : (most ns : List ℕ) → any (ltb 9999) most ≡ false → AtMost most ns → Small ns
+unfolding any
+most-small most [] s h = tt
+most-small [] (n ∷ ns) s h = absurd h
+most-small (m ∷ most) (n ∷ ns) s h =
+    let b = neither (ltb 9999 m) (any (ltb 9999) most) s in
+    (omega (arith, ltb-false 9999 m (b .0), h .0), most-small most ns (b .1) (h .1))
+
+numbers-longest : (most ns : List ℕ) → AtMost most ns → length (numbersOf (map pos ns)) ≤ length (numbersOf (map pos most))
+numbers-longest most [] h = omega (arith, ap length (no-numbers []))
+numbers-longest [] (n ∷ ns) h = absurd h
+numbers-longest (m ∷ most) (n ∷ ns) h =
+    omega (
+      arith,
+      long n ns,
+      long m most,
+      decimal-rises n m (h .0),
+      numbers-longest most ns (h .1),
+    )
+  where
+    long : (n : ℕ) (ns : List ℕ) → length (numbersOf (map pos (n ∷ ns))) ≡ length (decimalOf n) + length (numbersOf (map pos ns)) + 1
+    long n ns = omega (arith, ap length (numbers-cons (pos n) (map pos ns)), length-append (integerOf (pos n)) (numbersOf (map pos ns)), ap length (natural-written n))
+
+pub line-longest : (word most ns : List ℕ) → AtMost most ns → length (lineOf word (map pos ns)) ≤ length (lineOf word (map pos most))
+line-longest word most ns h = omega (arith, line-long word (map pos ns), line-long word (map pos most), numbers-longest most ns h)

@@ -177,6 +177,9 @@ pub unsigned : (m : ℕ) (z : ℤ) → m ≡ natAbs z → ltZ z (pos 0) ≡ fals
 unfolding integerOf
 unsigned m z size h = rw (h, size)
 
+pub natural-written : (n : ℕ) → integerOf (pos n) ≡ decimalOf n
+natural-written n = unsigned n (pos n) refl (le-ltb n 0 (omega arith))
+
 -- writing an integer whose size is m: its sign, if any, then its size
 module _ (at m : ℕ) (z : ℤ) (out : List ℕ) (size : m ≡ natAbs z) (fits : at + length (integerOf z) ≤ length out) where
   module _ (h : ltZ z (pos 0) ≡ true) where
@@ -210,7 +213,7 @@ integer-length k z h = go (ltZ z (pos 0)) (decimal-length k (natAbs z) h)
     go false l = omega (arith, l)
 
 pub natural-length : (k n : ℕ) → n < 10 ^ suc k → length (integerOf (pos n)) ≤ suc k
-natural-length k n h = let e = ap length (unsigned n (pos n) refl (le-ltb n 0 (omega arith))) in let l = decimal-length k n h in omega (arith, e, l)
+natural-length k n h = let e = ap length (natural-written n) in let l = decimal-length k n h in omega (arith, e, l)
 
 -- ---- texts one behind the other
 

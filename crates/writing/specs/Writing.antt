@@ -1,6 +1,6 @@
 -- What is written into a lent text, and how numbers are written (document 01, "Plan"):
 --   "Otherwise it returns how many bytes it wrote, and later bytes are untouched." "Each line ends in one byte 0A. Negative numbers have `-`."
-use Prim.Native.Nat.{ℕ, zero, suc, _+_, _/_, _%_}
+use Prim.Native.Nat.{ℕ, zero, suc, _+_, _/_, _%_, _<_}
 use mathlib.Core.Bool.{cond}
 use mathlib.Core.List.{List, [], _∷_, _++_}
 use lib.Dec.{ltb}
@@ -46,3 +46,8 @@ numbersOf numbers = gather (numberField numbers) (length numbers)
 -- a word, then numbers, parted by commas
 unfoldable pub lineOf : List ℕ → List ℤ → List ℕ
 lineOf word numbers = word ++ (numbersOf numbers ++ (lineEnd ∷ []))
+
+-- "A number is 1 to 4 decimal digits": each number is below 10,000
+abbrev pub Small : List ℕ → Type 0
+Small [] = Unit
+Small (n ∷ ns) = (n < 10000) × Small ns

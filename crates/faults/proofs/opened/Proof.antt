@@ -71,7 +71,8 @@ screen-requires c κs = search needs
 answered : (s : tie.After-screen) → s .screen .result ≡ Answered (s .before)
 answered s =
     let k = s .before in
-    s .screen .ensures ∙ ap (λ (b : Bool). screenOf (minus 2048000) (pos 2048000) b (C k) (Room k) ((1 * 2 ^ k .kept-inputs .result) % 2 ^ 64)) (right k)
+    let e : s .screen .result ≡ screenOf (minus 2048000) (pos 2048000) (ltb 0 (k .kept-inputs .result)) (C k) (Room k) ((1 * 2 ^ k .kept-inputs .result) % 2 ^ 64) = s .screen .ensures in
+    e ∙ ap (λ (b : Bool). screenOf (minus 2048000) (pos 2048000) b (C k) (Room k) ((1 * 2 ^ k .kept-inputs .result) % 2 ^ 64)) (right k)
     ∙ screen-due (minus 2048000) (pos 2048000) (Right k) (C k) (Room k) (due k)
 
 enum-known-number : tie.Need-enum-known-number

@@ -76,7 +76,8 @@ loop-less c = search needs
 loop-again : tie.Need-loop-again Inv-loop μ-loop
 loop-again c =
     let t = c .before .before .before .before .before in
-    let e = c .before .stick .ensures ∙ next t in
+    let once : _ ≡ stuckOnce (getD (L t) (J t) 0) (getD (W t) (J t) 0) (t .before .loop .a) = c .before .stick .ensures in
+    let e = once ∙ next t in
     (omega arith, ap length e ∙ from-length (A t) (L t) (W t) (J t), e)
 
 same-length : tie.Need-same-length Inv-loop μ-loop

@@ -1,7 +1,7 @@
 -- Each return is one of the laws of `Assembling` over what the three stages answered.
 use borrow.Author.Needs.{needs}
 use denote.Ref.{now}
-use mathlib.Core.Path.{_≡_, sym, _∙_}
+use mathlib.Core.Path.{_≡_, refl, sym, _∙_}
 use native.Mathlib.Omega.{arith}
 use Rattle.statements.specs.declared.Head.{Head}
 use Rattle.netlist.specs.Parsing.{meaning}
@@ -53,7 +53,7 @@ returns : tie.Need-returns
 returns c =
     let s = c .before .before .before in
     let stopped = c .before .if1 .taken in
-    (meant (c .refused .result) (c .refused .ensures .0) (c .refused .ensures .1) stopped ∙ sym (gates-stop (H s) (gates-read s) stopped), c .refused .ensures .2)
+    (meant (c .refused .result) (c .refused .ensures .0) (c .refused .ensures .1) stopped ∙ sym (gates-stop (H s) (gates-read s) stopped), c .refused .ensures .2, λ e. absurd (stopped (sym (c .refused .ensures .0) ∙ e)))
 
 add-outputs : tie.Need-add-outputs
 add-outputs c = search needs
@@ -68,7 +68,7 @@ returns-2 : tie.Need-returns-2
 returns-2 c =
     let s = c .before .before .before in
     let stopped = c .before .if2 .taken in
-    (meant (c .refused2 .result) (c .refused2 .ensures .0) (c .refused2 .ensures .1) stopped ∙ sym (outputs-stop (H (G s)) (gates-read (G s)) (gates-passed s) (outputs-read s) stopped), c .refused2 .ensures .2)
+    (meant (c .refused2 .result) (c .refused2 .ensures .0) (c .refused2 .ensures .1) stopped ∙ sym (outputs-stop (H (G s)) (gates-read (G s)) (gates-passed s) (outputs-read s) stopped), c .refused2 .ensures .2, λ e. absurd (stopped (sym (c .refused2 .ensures .0) ∙ e)))
 
 add-faults : tie.Need-add-faults
 add-faults c = search needs
@@ -86,7 +86,7 @@ returns-3 : tie.Need-returns-3
 returns-3 c =
     let s = c .before .before .before in
     let stopped = c .before .if3 .taken in
-    (meant (c .refused3 .result) (c .refused3 .ensures .0) (c .refused3 .ensures .1) stopped ∙ sym (faults-stop (H (G (O s))) (gates-read (G (O s))) (gates-passed (O s)) (outputs-read (O s)) (outputs-passed s) (faults-read s) stopped), c .refused3 .ensures .2)
+    (meant (c .refused3 .result) (c .refused3 .ensures .0) (c .refused3 .ensures .1) stopped ∙ sym (faults-stop (H (G (O s))) (gates-read (G (O s))) (gates-passed (O s)) (outputs-read (O s)) (outputs-passed s) (faults-read s) stopped), c .refused3 .ensures .2, λ e. absurd (stopped (sym (c .refused3 .ensures .0) ∙ e)))
 
 add-refused : tie.Need-add-refused
 add-refused c = omega (arith, a (G (O (c .before .before .before .before .before))) .pre)
@@ -107,6 +107,7 @@ returns-4 c =
       meant (c .refused4 .result) (c .refused4 .ensures .0) (c .refused4 .ensures .1) (λ e. absurd (omega arith))
           ∙ sym (bytes-left (H (G (O s))) (gates-read (G (O s))) (gates-passed (O s)) (outputs-read (O s)) (outputs-passed s) (faults-read s) (c .before .before .before .before .before .if3 .left) (c .before .before .before .if4 .taken)),
       c .refused4 .ensures .2,
+      λ e. absurd (omega (arith, e, c .refused4 .ensures .0)),
     )
 
 returns-5 : tie.Need-returns-5
@@ -116,6 +117,7 @@ returns-5 c =
     let q = a (G (O s)) .pre in (
       sym (all-read (H (G (O s))) (gates-read (G (O s))) (gates-passed (O s)) (outputs-read (O s)) (outputs-passed s) (faults-read s) (c .before .before .before .before .before .if3 .left) (c .before .before .before .if4 .left)),
       record { inputs = q .0; gates = q .1; outputs = q .2; faults = q .3 },
+      λ e. refl,
     )
 
 pub body-spec : {M : Type 1} → statement M

@@ -19,7 +19,7 @@ returns : tie.Need-returns
 returns c =
     let text = now (c .before .before .before .args .text) in
     let r = c .refused in
-    (meant (r .result) (r .ensures .0) (r .ensures .1) (λ e. absurd (omega arith)) ∙ sym (too-long text (c .before .if1 .taken)), r .ensures .2)
+    (meant (r .result) (r .ensures .0) (r .ensures .1) (λ e. absurd (omega arith)) ∙ sym (too-long text (c .before .if1 .taken)), r .ensures .2, λ e. absurd (omega (arith, e, r .ensures .0)))
 
 find-requires : tie.Need-find-requires
 find-requires c κs = search needs
@@ -32,7 +32,7 @@ returns-2 c =
     let text = now (c .before .before .before .before .before .args .text) in
     let r = c .refused2 in
     let f = c .before .before .find in
-    (meant (r .result) (r .ensures .0) (r .ensures .1) (λ e. absurd (omega arith)) ∙ sym (no-head text (c .before .before .before .if1 .left) (f .ensures) (c .before .if2 .taken)), r .ensures .2)
+    (meant (r .result) (r .ensures .0) (r .ensures .1) (λ e. absurd (omega arith)) ∙ sym (no-head text (c .before .before .before .if1 .left) (f .ensures) (c .before .if2 .taken)), r .ensures .2, λ e. absurd (omega (arith, e, r .ensures .0)))
 
 sub-head-line : tie.Need-sub-head-line
 sub-head-line c = search needs
@@ -59,6 +59,7 @@ returns-3 c =
       meant (r .result) (r .ensures .0) (r .ensures .1) stopped
           ∙ sym (head-stop text (c .before .before .before .before .before .before .if1 .left) (f .ensures) (c .before .before .before .before .if2 .left) (h .ensures .0) stopped),
       r .ensures .2,
+      λ e. absurd (stopped (sym (r .ensures .0) ∙ e)),
     )
 
 add-body : tie.Need-add-body
@@ -79,6 +80,7 @@ returns-4 c =
           ∙ ap (λ (x : Head). bodyOf x (drop (f .result + 1) text)) (h .ensures .1)
           ∙ sym (head-passed text (c .before .before .before .before .before .before .if1 .left) (f .ensures) (c .before .before .before .before .if2 .left) (h .ensures .0) (c .before .if3 .left)),
       c .body .ensures .1,
+      c .body .ensures .2,
     )
 
 pub parse-spec : {M : Type 1} → statement M

@@ -1,0 +1,88 @@
+-- The three demands, as theorems:
+--   demand-one      every refusal has its number and place, exactly where it holds, and writes nothing
+--   demand-two      spectra both ways, under faults too, and readings
+--   all-demands     these and planner's demand-three
+use mathlib.Core.List.{List}
+use mathlib.Core.Logic.{_⊎_, inl, inr, ⊎-elim}
+use Prim.Native.Nat.{ℕ}
+use Rattle.statements.proofs.FormsMeant.{head-form, gate-form, output-form, fault-form}
+use Rattle.statements.proofs.LineNumbers.{head-least, gate-least, output-least, fault-least}
+use Rattle.netlist.proofs.AcceptedTexts.{texts-exactly, accepted-short}
+use Rattle.netlist.proofs.Refusals.{one-exactly, line-exactly, seven-exactly, none-exactly, text-refused}
+use Rattle.walsh.specs.Lists.{spectrumAnswer, rowsAnswer}
+use Rattle.faults.specs.Faults.{stuckAnswer, openedAnswer}
+use Rattle.circuit.specs.CircuitCall.{circuitAnswer}
+use Rattle.circuit.proofs.CircuitLaws.{circuit-done}
+use Rattle.planner.proofs.Demanded.{demand-three}
+use Rattle.report.proofs.PrintedLabels.{printed-covers, printed-line}
+use Rattle.fixture.proofs.Exactly.{reading-exact, pair-exact}
+use Rattle.demands.specs.DemandOne.{TextsAnswered, LinesNumbered, DemandOne}
+use Rattle.demands.specs.DemandTwo.{DemandTwo}
+use Rattle.demands.specs.Demands.{Demands}
+use Rattle.demands.proofs.ListCalls.{spectrum-tested, rows-tested, coefficient-tested, stuck-tested, opened-tested, writes-of, spectrum-zero, rows-zero, stuck-zero, opened-zero, coefficient-zero}
+use Rattle.demands.proofs.TextCalls.{circuit-tested, plan-tested, report-tested, reading-tested, pair-tested, plan-writing, report-writing, report-working, plan-zero, report-zero, reading-zero, pair-zero}
+use Rattle.demands.proofs.SpectraCircuits.{spectra-right, faulty-spectra-right, circuits-right, readings-right, case-right}
+
+texts-answered : (text : List ℕ) → TextsAnswered text
+texts-answered text =
+    record {
+      too-long = one-exactly text;
+      line = line-exactly text;
+      bytes-behind = seven-exactly text;
+      no-other = λ number place e. ⊎-elim inl (λ line. inr (line .number-low, line .number-high)) (text-refused text number place e);
+      accept = texts-exactly text;
+      none-applies = none-exactly text;
+      short = accepted-short text;
+    }
+
+lines-numbered : (l : List ℕ) → LinesNumbered l
+lines-numbered l = record { head = head-least l; gate = λ own. gate-least own l; output = λ top. output-least top l; fault = λ top. fault-least top l }
+
+pub demand-one : DemandOne
+demand-one =
+    record {
+      texts = texts-answered;
+      lines = record { head = head-form; gate = gate-form; output = output-form; fault = fault-form };
+      numbers = lines-numbered;
+      circuit = circuit-tested;
+      plan = plan-tested;
+      report = report-tested;
+      reading = reading-tested;
+      pair = λ text fault mask values. pair-tested text mask values fault;
+      coefficient = coefficient-tested;
+      spectrum = spectrum-tested;
+      rows = rows-tested;
+      stuck = stuck-tested;
+      opened = opened-tested;
+      circuit-writes = λ text fault room. writes-of (circuitAnswer text fault room) (circuit-done text fault room);
+      spectrum-writes = λ rows room. writes-of (spectrumAnswer rows room) (spectrum-zero rows room);
+      rows-writes = λ c room. writes-of (rowsAnswer c room) (rows-zero c room);
+      stuck-writes = λ c inputs values room. writes-of (stuckAnswer c inputs values room) (stuck-zero c inputs values room);
+      opened-writes = λ c values room. writes-of (openedAnswer c values room) (opened-zero c values room);
+      plan-writes = plan-writing;
+      report-writes = report-writing;
+      report-work = report-working;
+      zero =
+          record {
+            coefficient = coefficient-zero;
+            plan = plan-zero;
+            report = report-zero;
+            reading = reading-zero;
+            pair = λ text fault mask values. pair-zero text mask values fault;
+          };
+    }
+
+pub demand-two : DemandTwo
+demand-two =
+    record {
+      spectra = spectra-right;
+      faults = faulty-spectra-right;
+      circuits = circuits-right;
+      readings = readings-right;
+      cases = case-right;
+      reading = reading-exact;
+      pair = pair-exact;
+    }
+
+pub all-demands : Demands
+all-demands = record { one = demand-one; two = demand-two; three = record { plan = demand-three; printed = printed-covers; line = printed-line } }

@@ -1,0 +1,4 @@
+pub mod ListCalls
+pub mod TextCalls
+pub mod SpectraCircuits
+pub mod AllDemands

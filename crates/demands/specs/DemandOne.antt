@@ -1,0 +1,111 @@
+-- Demand 1, in the user's words, over the definitions that the calls' promises cite:
+--   "Every call, on all input, ends and does nothing undefined. A malformed text gets its refusal number and place, a bad list, argument or short
+--   buffer its number, and a refusal writes nothing except where the paper names it."
+-- Limits stand here as the paper's numbers, not by name: a limit that moves must move here too.
+-- That every call ends and does nothing undefined is the prover's part: no function passes the gate without it, and no call has a `requires`.
+use Prim.Native.Nat.{ℕ, _<_, _≤_}
+use mathlib.Core.List.{List, [], _∷_}
+use mathlib.Core.Logic.{_↔_, _⊎_}
+use mathlib.Core.Path.{_≡_}
+use lib.IntN.{ℤ, pos}
+use lib.ListN.{length, drop}
+use Rattle.fields.specs.Fields.{LeastFailing}
+use Rattle.statements.specs.LineForms.{HeadForm, GateForm, OutputForm, FaultForm}
+use Rattle.statements.specs.Lines.{headTests, headRefusal, gateTests, gateRefusal, outputTests, outputRefusal, faultTests, faultRefusal}
+use Rattle.screen.specs.Answers.{answerNumber, answerPlace}
+use Rattle.screen.specs.declared.Answer.{Answer}
+use Rattle.results.specs.Results.{written, leaves}
+use Rattle.walsh.specs.Coefficients.{foundOf, foundNumber, foundPlace, foundValue}
+use Rattle.walsh.specs.Lists.{spectrumAnswer, rowsAnswer}
+use Rattle.faults.specs.Faults.{stuckAnswer, openedAnswer}
+use Rattle.netlist.specs.Circuits.{Netlist}
+use Rattle.netlist.specs.CircuitText.{textOf}
+use Rattle.netlist.specs.Parsing.{accepted, rejected, parseOf}
+use Rattle.netlist.specs.Places.{LineFails, BytesFollow, NoneApplies}
+use Rattle.netlist.specs.WellFormed.{WellFormed}
+use Rattle.circuit.specs.CircuitCall.{circuitAnswer}
+use Rattle.planner.specs.PlanCall.{planVerdict, planAnswer, WorkKept}
+use Rattle.report_lines.specs.ReportLines.{refusedLine}
+use Rattle.report.specs.ReportCall.{reportOf, reportAnswer, reportLeft, reportVerdict}
+use Rattle.reading.specs.Readings.{none, readingNumber, readingPlace, readingOf, fixedOf}
+use Rattle.fixture.specs.ReadingCall.{readingAnswer, pairAnswer}
+use Rattle.demands.specs.Tests.{NoRefusal, RefusedIf, AtNone, OnText}
+use Rattle.demands.specs.Refusals.{CoefficientTests, SpectrumTests, RowsTests, StuckTests, OpenedTests, CircuitTests, PlanTests, ReadingTests, PairTests}
+
+-- "A malformed text gets its refusal number and place": each number exactly where it holds, and a text is accepted exactly when it is the one written from a
+-- well-formed circuit
+pub record TextsAnswered (text : List ℕ) : Type 0 where
+  pub too-long : (parseOf text ≡ rejected 1 0) ↔ (16384 < length text)
+  pub line : (number place : ℕ) → ((parseOf text ≡ rejected number place) × (2 ≤ number) × (number ≤ 6)) ↔ LineFails text number place
+  pub bytes-behind : (place : ℕ) → (parseOf text ≡ rejected 7 place) ↔ BytesFollow text place
+  pub no-other : (number place : ℕ) → parseOf text ≡ rejected number place → ((number ≡ 1) × (place ≡ 0)) ⊎ ((2 ≤ number) × (number ≤ 7))
+  pub accept : (n : Netlist) → (parseOf text ≡ accepted n) ↔ (WellFormed n × (text ≡ textOf n))
+  -- "A text is accepted exactly when none of 1 to 7 applies."
+  pub none-applies : ((n : Netlist) × (parseOf text ≡ accepted n)) ↔ NoneApplies text
+  pub short : (n : Netlist) → parseOf text ≡ accepted n → length text ≤ 1512
+
+-- what each kind of line is tested for, by the numbers that it is written from
+pub record LinesTested : Type 0 where
+  pub head : HeadForm
+  pub gate : GateForm
+  pub output : OutputForm
+  pub fault : FaultForm
+
+-- "within a line 2, 3, then 4, 5, 6"
+pub record LinesNumbered (l : List ℕ) : Type 0 where
+  pub head : LeastFailing (headTests l) (headRefusal l)
+  pub gate : (own : ℕ) → LeastFailing (gateTests own l) (gateRefusal own l)
+  pub output : (top : ℕ) → LeastFailing (outputTests top l) (outputRefusal top l)
+  pub fault : (top : ℕ) → LeastFailing (faultTests top l) (faultRefusal top l)
+
+-- a call on a list that writes: "a refusal writes nothing"
+pub record Writes (a : Answer) (new out : List ℤ) : Type 0 where
+  pub refused : (answerNumber a ≡ 0 → ⊥) → leaves a new out ≡ out
+  pub done : answerNumber a ≡ 0 → leaves a new out ≡ written new out
+
+-- the plan call, and the report call, on working numbers that are `before`, and hold `after` afterwards: "13 and 14 may have used the working numbers", "later ones are untouched"
+pub record PlanWrites (text before after : List ℕ) : Type 0 where
+  pub later : drop 4608 after ≡ drop 4608 before
+  pub refused : let number = planAnswer text (length before) .number in (number ≡ 0 → ⊥) → (number ≡ 13 → ⊥) → (number ≡ 14 → ⊥) → after ≡ before
+
+-- the report call's lent bytes: "if either is short it returns 8 before all else and writes nothing", else the refusal is a line of the report
+pub record ReportWrites (text out : List ℕ) (work : ℕ) : Type 0 where
+  pub short : (length out < 1024) ⊎ (work < 4608) → reportLeft text work out ≡ out
+  pub refusal-line : 4608 ≤ work → (planAnswer text work .number ≡ 0 → ⊥) → reportOf text ≡ refusedLine (planAnswer text work .number) (planAnswer text work .place)
+
+-- "Sizes, labels and readings returned with a refusal are 0."
+pub record RefusedZero : Type 0 where
+  pub coefficient : (rows : List ℤ) (label : ℕ) → (foundNumber (foundOf rows label) ≡ 0 → ⊥) → foundValue (foundOf rows label) ≡ pos 0
+  pub plan : (text : List ℕ) (work : ℕ) → let a = planAnswer text work in (a .number ≡ 0 → ⊥) → (a .size ≡ 0) × (a .labels ≡ 0 ∷ 0 ∷ 0 ∷ 0 ∷ [])
+  pub report : (text : List ℕ) (room work : ℕ) → let a = reportAnswer text room work in (a .number ≡ 0 → ⊥) → a .bytes ≡ 0
+  pub reading : (text : List ℕ) (mask values : ℕ) → let a = readingAnswer text mask values in (readingNumber a ≡ 0 → ⊥) → (readingOf a ≡ none) × (fixedOf a ≡ 0)
+  pub pair : (text : List ℕ) (fault mask values : ℕ) → let a = pairAnswer text fault mask values in (a .number ≡ 0 → ⊥)
+      → (a .readings .sound ≡ none) × (a .readings .faulty ≡ none) × (a .readings .difference ≡ none)
+
+pub record DemandOne : Type 0 where
+  pub texts : (text : List ℕ) → TextsAnswered text
+  pub lines : LinesTested
+  pub numbers : (l : List ℕ) → LinesNumbered l
+  -- calls on a text
+  pub circuit : (text : List ℕ) (fault room : ℕ) → let a = circuitAnswer text fault room in OnText text (CircuitTests fault room) (answerNumber a) (answerPlace a)
+  pub plan : (text : List ℕ) (work : ℕ) → let a = planAnswer text work in OnText text (PlanTests work) (a .number) (a .place)
+  pub report : (text : List ℕ) (room work : ℕ) → RefusedIf 8 (AtNone ((room < 1024) ⊎ (work < 4608))) NoRefusal (reportAnswer text room work .number) 0
+  pub reading : (text : List ℕ) (mask values : ℕ) → let a = readingAnswer text mask values in OnText text (ReadingTests mask values) (readingNumber a) (readingPlace a)
+  pub pair : (text : List ℕ) (fault mask values : ℕ) → let a = pairAnswer text fault mask values in OnText text (PairTests fault mask values) (a .number) (a .place)
+  -- calls on a list
+  pub coefficient : (rows : List ℤ) (label : ℕ) → let a = foundOf rows label in CoefficientTests rows label (foundNumber a) (foundPlace a)
+  pub spectrum : (rows : List ℤ) (room : ℕ) → let a = spectrumAnswer rows room in SpectrumTests rows room (answerNumber a) (answerPlace a)
+  pub rows : (c : List ℤ) (room : ℕ) → let a = rowsAnswer c room in RowsTests c room (answerNumber a) (answerPlace a)
+  pub stuck : (c : List ℤ) (inputs values : List ℕ) (room : ℕ) → let a = stuckAnswer c inputs values room in StuckTests c inputs values room (answerNumber a) (answerPlace a)
+  pub opened : (c : List ℤ) (values : List ℕ) (room : ℕ) → let a = openedAnswer c values room in OpenedTests c values room (answerNumber a) (answerPlace a)
+  -- what is written
+  pub circuit-writes : (text : List ℕ) (fault room : ℕ) (new out : List ℤ) → Writes (circuitAnswer text fault room) new out
+  pub spectrum-writes : (rows : List ℤ) (room : ℕ) (new out : List ℤ) → Writes (spectrumAnswer rows room) new out
+  pub rows-writes : (c : List ℤ) (room : ℕ) (new out : List ℤ) → Writes (rowsAnswer c room) new out
+  pub stuck-writes : (c : List ℤ) (inputs values : List ℕ) (room : ℕ) (new out : List ℤ) → Writes (stuckAnswer c inputs values room) new out
+  pub opened-writes : (c : List ℤ) (values : List ℕ) (room : ℕ) (new out : List ℤ) → Writes (openedAnswer c values room) new out
+  pub plan-writes : (text before after : List ℕ) → WorkKept (planVerdict text (length before)) before after → PlanWrites text before after
+  pub report-writes : (text out : List ℕ) (work : ℕ) → ReportWrites text out work
+  pub report-work : (text : List ℕ) (room : ℕ) (before after : List ℕ) → WorkKept (reportVerdict text room (length before)) before after
+      → (reportAnswer text room (length before) .number ≡ 8 → after ≡ before) × PlanWrites text before after
+  pub zero : RefusedZero

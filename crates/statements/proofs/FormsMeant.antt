@@ -1,0 +1,275 @@
+-- The tests of a line ask of its fields what `LineForms` asks of the numbers that it is written from:
+--   head-form, gate-form, output-form, fault-form       for each of the four kinds of line
+--   both-mean, below-means, range-means, there-means    what single tests mean
+--   gate-kind, gate-value                               what is read of a gate's line
+--   PairCount, fault-formed                             the fields of a fault line: a word and the numbers of one to three pairs
+use mathlib.Core.Path.{_≡_, refl, sym, ap, _∙_, subst}
+use mathlib.Core.Bool.{Bool, true, _&&_, _||_}
+use mathlib.Core.List.{List, [], _∷_, _++_, map}
+use mathlib.Core.Logic.{_↔_, Iff·trans, _⊎_, inl, inr, ⊎-map}
+use Prim.Native.Nat.{ℕ, zero, suc, _+_, _-_, _<_, _≤_}
+use native.Mathlib.Nat.{lt-of-not-le}
+use native.Mathlib.Decide.{decLe}
+use native.Mathlib.Omega.{arith}
+use lib.Dec.{eqb, leb, ltb}
+use lib.IntN.{pos}
+use lib.ListN.{length, getD, List·getD-eq-default}
+use borrow.Author.Tests.{leb-true, ltb-true, eqb-true, le-leb, lt-leb, lt-ltb, eq-eqb}
+use Rattle.integer.proofs.Bools.{both, either}
+use Rattle.text.specs.Text.{comma, indexOf, fieldOf, fieldCount}
+use Rattle.writing.specs.Writing.{Small}
+use Rattle.writing.proofs.LineFields.{next-field, word-field}
+use Rattle.fields.specs.Fields.{inRange, fits, isLine, valueAt}
+use Rattle.fields.proofs.JoinedLines.{valuesFrom, values-small, line-joined, behind-joined, line-form}
+use Rattle.fields.proofs.PlainLines.{range, in-range, plain-count, plain-value, plain-numbers, plain-line, value-behind, line-behind}
+use Rattle.kinds.specs.Kinds.{kindWord, isKind, kindOf}
+use Rattle.kinds.specs.declared.Kind.{Kind}
+use Rattle.kinds.specs.declared.Kind.the-variants.{And, Or, Nand, Nor, Xor, Xnor, Not}
+use Rattle.kinds.proofs.KindWords.{kind-written, kind-only}
+use Rattle.statements.specs.Lines.{circuitWord, gateWord, outputWord, faultWord, isHead, headFits, isGate, secondFits, gateFits, readsBelow, isOutput, outputFits, isFault, pairInRange, pairFits, faultFits, linesExist, risesAt, linesRise}
+use Rattle.statements.specs.LineForms.{lineFrom, HeadForm, SecondInRange, gateFrom, GateForm, OutputForm, flatPairs, lineOfPair, valueOfPair, FaultPairs, FaultForm}
+
+-- ---- tests and what they mean
+
+pub both-mean : {A B : Type 0} {a b : Bool} → (a ≡ true) ↔ A → (b ≡ true) ↔ B → ((a && b) ≡ true) ↔ (A × B)
+both-mean {a = a} {b = b} f g = (λ e. let t = both a b e in (f .0 (t .0), g .0 (t .1)), λ t. rw (f .1 (t .0)) (g .1 (t .1)))
+
+at-most-means : {a b v w : ℕ} → v ≡ a → w ≡ b → (leb v w ≡ true) ↔ (a ≤ b)
+at-most-means {a = a} {b = b} e f = rw (e, f) (leb-true a b, le-leb a b)
+
+pub below-means : {a b v w : ℕ} → v ≡ a → w ≡ b → (ltb v w ≡ true) ↔ (a < b)
+below-means {a = a} {b = b} e f = rw (e, f) (ltb-true a b, lt-ltb a b)
+
+pub range-means : {a v : ℕ} → v ≡ a → (low high : ℕ) → (inRange v low high ≡ true) ↔ ((low ≤ a) × (a ≤ high))
+range-means {a = a} e low high = rw e (range a low high, λ t. in-range a low high (t .0) (t .1))
+
+-- a test of something that is there where k is below n
+pub there-means : {A : Type 0} (n k : ℕ) {b : Bool} → (b ≡ true) ↔ A → ((leb n k || b) ≡ true) ↔ (k < n → A)
+there-means {A = A} n k {b = b} f = (there, back (decLe n k))
+  where
+    there : (leb n k || b) ≡ true → k < n → A
+    there e h = f .0 (subst (λ (t : Bool). (t || b) ≡ true) (lt-leb n k h) e)
+
+    back : Dec (n ≤ k) → (k < n → A) → (leb n k || b) ≡ true
+    back (yes none) g = rw (le-leb n k none)
+    back (no some) g = rw (lt-leb n k (lt-of-not-le some)) (f .1 (g (lt-of-not-le some)))
+
+-- ---- the first line
+
+head-range : (n g m q k : ℕ) → let ns = n ∷ g ∷ m ∷ q ∷ k ∷ [] in Small ns
+    → (headFits (lineFrom circuitWord ns) ≡ true) ↔ ((1 ≤ n) × (n ≤ 8) × (g ≤ 48) × (1 ≤ m) × (m ≤ 4) × (1 ≤ q) × (q ≤ 32) × (1 ≤ k) × (k ≤ 4))
+unfolding headFits fits indexOf
+head-range n g m q k small =
+    Iff·trans
+    (both-mean (both-mean (both-mean (both-mean (range-means (at 0) 1 8) (range-means (at 1) 0 48)) (range-means (at 2) 1 4)) (range-means (at 3) 1 32)) (range-means (at 4) 1 4)) (
+      λ t. let r = t .0 .0 in (r .0 .0 .0, r .0 .0 .1, r .0 .1 .1, r .1 .0, r .1 .1, t .0 .1 .0, t .0 .1 .1, t .1 .0, t .1 .1),
+      λ t. (((((t .0, t .1), (omega arith, t .2)), (t .3, t .4)), (t .5, t .6)), (t .7, t .8)),
+    )
+  where
+    ns : List ℕ
+    ns = n ∷ g ∷ m ∷ q ∷ k ∷ []
+
+    at : (k : ℕ) → valueAt (lineFrom circuitWord ns) (suc k) ≡ getD ns k 0
+    at k = plain-value circuitWord ns small refl k
+
+pub head-form : HeadForm
+unfolding isHead indexOf
+head-form = record { form = λ l. line-form l circuitWord 5 refl; range = head-range }
+
+-- ---- outputs
+
+module _ (line weight : ℕ) (small : Small (line ∷ weight ∷ [])) where
+  output-value : (k : ℕ) → valueAt (lineFrom outputWord (line ∷ weight ∷ [])) (suc k) ≡ getD (line ∷ weight ∷ []) k 0
+  unfolding indexOf
+  output-value k = plain-value outputWord (line ∷ weight ∷ []) small refl k
+
+  output-range : (outputFits (lineFrom outputWord (line ∷ weight ∷ [])) ≡ true) ↔ ((1 ≤ line) × (line ≤ 56) × (1 ≤ weight) × (weight ≤ 15))
+  unfolding outputFits fits
+  output-range = Iff·trans (both-mean (range-means (output-value 0) 1 56) (range-means (output-value 1) 1 15)) (λ t. (t .0 .0, t .0 .1, t .1 .0, t .1 .1), λ t. ((t .0, t .1), (t .2, t .3)))
+
+pub output-form : OutputForm
+unfolding isOutput indexOf
+output-form =
+    record {
+      form = λ l. line-form l outputWord 2 refl;
+      range = output-range;
+      exists = λ top line weight small. at-most-means (output-value line weight small 0) refl;
+    }
+
+-- ---- gates
+
+second-means : (kind : Kind) (b : ℕ) → (secondFits kind b ≡ true) ↔ SecondInRange kind b
+unfolding secondFits
+second-means And b = range-means refl 1 56
+second-means Or b = range-means refl 1 56
+second-means Nand b = range-means refl 1 56
+second-means Nor b = range-means refl 1 56
+second-means Xor b = range-means refl 1 56
+second-means Xnor b = range-means refl 1 56
+second-means Not b = (eqb-true b 0, eq-eqb b 0)
+
+module _ (kind : Kind) (a b : ℕ) (small : Small (a ∷ b ∷ [])) where
+  -- from the kind on
+  abbrev behind-gate : List ℕ
+  behind-gate = lineFrom (kindWord kind) (a ∷ b ∷ [])
+
+  pub gate-kind : fieldOf (gateFrom kind a b) 1 ≡ kindWord kind
+  unfolding indexOf
+  gate-kind = next-field gateWord behind-gate refl 0 ∙ word-field (kindWord kind) (map pos (a ∷ b ∷ [])) (kind-written kind .one-field)
+
+  pub gate-value : (k : ℕ) → valueAt (gateFrom kind a b) (suc (suc k)) ≡ getD (a ∷ b ∷ []) k 0
+  unfolding indexOf
+  gate-value k = value-behind gateWord behind-gate refl (suc k) ∙ plain-value (kindWord kind) (a ∷ b ∷ []) small (kind-written kind .one-field) k
+
+  gate-formed : isGate (gateFrom kind a b) ≡ true
+  unfolding isGate indexOf
+  gate-formed =
+      let one = kind-written kind .one-field in
+      rw (
+        line-behind gateWord behind-gate refl 1 3 (plain-count (kindWord kind) (a ∷ b ∷ []) small one) (plain-numbers (kindWord kind) (a ∷ b ∷ []) small one),
+        gate-kind,
+        kind-written kind .known,
+      )
+
+  gate-range : (gateFits (gateFrom kind a b) ≡ true) ↔ ((1 ≤ a) × (a ≤ 56) × SecondInRange kind b)
+  unfolding gateFits fits
+  gate-range = Iff·trans (both-mean (range-means (gate-value 0) 1 56) second) (λ t. (t .0 .0, t .0 .1, t .1), λ t. ((t .0, t .1), t .2))
+    where
+      second : (secondFits (kindOf (fieldOf (gateFrom kind a b) 1)) (valueAt (gateFrom kind a b) 3) ≡ true) ↔ SecondInRange kind b
+      second = rw (gate-kind, kind-written kind .read, gate-value 1) (second-means kind b)
+
+gate-joined : (l : List ℕ) → isGate l ≡ true → (kind : Kind) × (a : ℕ) × (b : ℕ) × Small (a ∷ b ∷ []) × (l ≡ gateFrom kind a b)
+unfolding isGate
+gate-joined l e =
+    let f = both (isLine l gateWord 2 4) (isKind (fieldOf l 1)) e in (
+      kindOf (fieldOf l 1),
+      valueAt l 2,
+      valueAt l 3,
+      values-small l 2 2,
+      behind-joined l gateWord 2 (f .0) ∙ ap (λ (w : List ℕ). lineFrom (gateWord ++ (comma ∷ w)) (valueAt l 2 ∷ valueAt l 3 ∷ [])) (kind-only (fieldOf l 1) (f .1)),
+    )
+
+pub gate-form : GateForm
+unfolding readsBelow
+gate-form =
+    record {
+      form = λ l. (gate-joined l, λ t. ap isGate (t .4) ∙ gate-formed (t .0) (t .1) (t .2) (t .3));
+      range = gate-range;
+      below = λ own kind a b small. both-mean (below-means (gate-value kind a b small 0) refl) (below-means (gate-value kind a b small 1) refl);
+    }
+
+-- ---- faults
+
+-- fields of one pair, two or three
+abbrev pub PairCount : ℕ → Type 0
+PairCount n = ((n ≡ 3) ⊎ (n ≡ 5)) ⊎ (n ≡ 7)
+
+pub fault-formed : (l : List ℕ) → isFault l ≡ true → PairCount (fieldCount l) × (isLine l faultWord 1 (fieldCount l) ≡ true)
+unfolding isFault
+fault-formed l e =
+    let n = fieldCount l in
+    let b = both (eqb n 3 || eqb n 5 || eqb n 7) (isLine l faultWord 1 n) e in
+    (⊎-map (λ c. ⊎-map (eqb-true n 3) (eqb-true n 5) (either (eqb n 3) (eqb n 5) c)) (eqb-true n 7) (either (eqb n 3 || eqb n 5) (eqb n 7) (b .0)), b .1)
+
+abbrev FaultFrom : List ℕ → Type 0
+FaultFrom l = (pairs : List (ℕ × ℕ)) × FaultPairs pairs × (l ≡ lineFrom faultWord (flatPairs pairs))
+
+fault-joined : (l : List ℕ) → isFault l ≡ true → FaultFrom l
+fault-joined l e = let f = fault-formed l e in go (f .0) (λ n c. line-joined l faultWord n (subst (λ (n : ℕ). isLine l faultWord 1 n ≡ true) c (f .1)))
+  where
+    pair : ℕ → ℕ × ℕ
+    pair k = (valueAt l k, valueAt l (suc k))
+
+    go : PairCount (fieldCount l) → ((n : ℕ) → fieldCount l ≡ suc n → l ≡ lineFrom faultWord (valuesFrom l 1 n)) → FaultFrom l
+    go (inl (inl one)) joined = (pair 1 ∷ [], record { some = omega arith; few = omega arith; small = values-small l 1 2 }, joined 2 one)
+    go (inl (inr two)) joined = (pair 1 ∷ pair 3 ∷ [], record { some = omega arith; few = omega arith; small = values-small l 1 4 }, joined 4 two)
+    go (inr three) joined = (pair 1 ∷ pair 3 ∷ pair 5 ∷ [], record { some = omega arith; few = omega arith; small = values-small l 1 6 }, joined 6 three)
+
+flat-count : (pairs : List (ℕ × ℕ)) → length (flatPairs pairs) ≡ length pairs + length pairs
+flat-count [] = refl
+flat-count (p ∷ pairs) = omega (arith, flat-count pairs)
+
+-- LINE and VALUE of pair i, 0 where it is not there
+flat-at : (pairs : List (ℕ × ℕ)) (i : ℕ) → (getD (flatPairs pairs) (i + i) 0 ≡ lineOfPair pairs i) × (getD (flatPairs pairs) (suc (i + i)) 0 ≡ valueOfPair pairs i)
+flat-at [] i = (refl, refl)
+flat-at (p ∷ pairs) zero = (refl, refl)
+flat-at (p ∷ pairs) (suc i) = let next : suc i + suc i ≡ suc (suc (i + i)) = omega arith in rw next (flat-at pairs i)
+
+-- what holds of each of at most three
+first-three : (P : ℕ → Type 0) (n : ℕ) → n ≤ 3 → (((0 < n → P 0) × (1 < n → P 1)) × (2 < n → P 2)) ↔ ((i : ℕ) → i < n → P i)
+first-three P n few = (there, λ g. ((g 0, g 1), g 2))
+  where
+    there : ((0 < n → P 0) × (1 < n → P 1)) × (2 < n → P 2) → (i : ℕ) → i < n → P i
+    there t zero = t .0 .0
+    there t (suc zero) = t .0 .1
+    there t (suc (suc zero)) = t .1
+    there t (suc (suc (suc i))) = λ h. absurd (omega arith)
+
+module _ (pairs : List (ℕ × ℕ)) (right : FaultPairs pairs) where
+  abbrev faultFrom : List ℕ
+  faultFrom = lineFrom faultWord (flatPairs pairs)
+
+  pair-line : (i : ℕ) → valueAt faultFrom (suc (i + i)) ≡ lineOfPair pairs i
+  unfolding indexOf
+  pair-line i = plain-value faultWord (flatPairs pairs) (right .small) refl (i + i) ∙ flat-at pairs i .0
+
+  pair-value : (i : ℕ) → valueAt faultFrom (suc (suc (i + i))) ≡ valueOfPair pairs i
+  unfolding indexOf
+  pair-value i = plain-value faultWord (flatPairs pairs) (right .small) refl (suc (i + i)) ∙ flat-at pairs i .1
+
+  fault-count : fieldCount faultFrom ≡ suc (length pairs + length pairs)
+  unfolding indexOf
+  fault-count = plain-count faultWord (flatPairs pairs) (right .small) refl ∙ ap suc (flat-count pairs)
+
+  pair-fits : (i : ℕ) → (pairFits faultFrom (suc (i + i)) ≡ true) ↔ (i < length pairs → (1 ≤ lineOfPair pairs i) × (lineOfPair pairs i ≤ 56) × (valueOfPair pairs i ≤ 1))
+  unfolding pairFits pairInRange
+  pair-fits i =
+      Iff·trans (there-means (fieldCount faultFrom) (suc (i + i)) (both-mean (range-means (pair-line i) 1 56) (range-means (pair-value i) 0 1))) (
+        λ g h. let t = g (omega (arith, fault-count)) in (t .0 .0, t .0 .1, t .1 .1),
+        λ g h. let t = g (omega (arith, fault-count)) in ((t .0, t .1), (omega arith, t .2)),
+      )
+
+  -- a pair that is not there names line 0
+  pair-exists : (top i : ℕ) → (leb (valueAt faultFrom (suc (i + i))) top ≡ true) ↔ (i < length pairs → lineOfPair pairs i ≤ top)
+  pair-exists top i = Iff·trans (at-most-means (pair-line i) refl) (λ h there. h, go (decLe (length pairs) i))
+    where
+      go : Dec (length pairs ≤ i) → (i < length pairs → lineOfPair pairs i ≤ top) → lineOfPair pairs i ≤ top
+      go (yes none) g = omega (arith, ap (λ (p : ℕ × ℕ). p .0) (List·getD-eq-default pairs (0, 0) none))
+      go (no some) g = g (lt-of-not-le some)
+
+  pair-rises : (i : ℕ) → (risesAt faultFrom (suc (suc i + suc i)) ≡ true) ↔ (suc i < length pairs → lineOfPair pairs i < lineOfPair pairs (suc i))
+  unfolding risesAt
+  pair-rises i =
+      let last : suc (suc i + suc i) - 2 ≡ suc (i + i) = omega arith in
+      Iff·trans (there-means (fieldCount faultFrom) (suc (suc i + suc i)) (below-means (ap (valueAt faultFrom) last ∙ pair-line i) (pair-line (suc i))))
+      (λ g h. g (omega (arith, fault-count)), λ g h. g (omega (arith, fault-count)))
+
+  fault-rise : (linesRise faultFrom ≡ true) ↔ ((i : ℕ) → suc i < length pairs → lineOfPair pairs i < lineOfPair pairs (suc i))
+  unfolding linesRise
+  fault-rise = Iff·trans (both-mean (pair-rises 0) (pair-rises 1)) (there, λ g. (g 0, g 1))
+    where
+      there : (1 < length pairs → lineOfPair pairs 0 < lineOfPair pairs 1) × (2 < length pairs → lineOfPair pairs 1 < lineOfPair pairs 2) → (i : ℕ) → suc i < length pairs → lineOfPair pairs i < lineOfPair pairs (suc i)
+      there t zero = t .0
+      there t (suc zero) = t .1
+      there t (suc (suc i)) = λ h. absurd (omega (arith, right .few))
+
+  fault-line : isFault faultFrom ≡ true
+  unfolding isFault indexOf
+  fault-line = rw (fault-count, whole (length pairs) (right .some) (right .few)) (ap (λ (n : ℕ). isLine faultFrom faultWord 1 (suc n)) (sym (flat-count pairs)) ∙ plain-line faultWord (flatPairs pairs) (right .small) refl)
+    where
+      whole : (n : ℕ) → 1 ≤ n → n ≤ 3 → (eqb (suc (n + n)) 3 || eqb (suc (n + n)) 5 || eqb (suc (n + n)) 7) ≡ true
+      whole zero low high = absurd (omega arith)
+      whole (suc zero) low high = refl
+      whole (suc (suc zero)) low high = refl
+      whole (suc (suc (suc zero))) low high = refl
+      whole (suc (suc (suc (suc n)))) low high = absurd (omega arith)
+
+pub fault-form : FaultForm
+unfolding faultFits linesExist
+fault-form =
+    record {
+      form = λ l. (fault-joined l, λ t. ap isFault (t .2) ∙ fault-line (t .0) (t .1));
+      range = λ pairs right. Iff·trans (both-mean (both-mean (pair-fits pairs right 0) (pair-fits pairs right 1)) (pair-fits pairs right 2)) (first-three _ (length pairs) (right .few));
+      exists = λ top pairs right. Iff·trans (both-mean (both-mean (pair-exists pairs right top 0) (pair-exists pairs right top 1)) (pair-exists pairs right top 2)) (first-three _ (length pairs) (right .few));
+      rise = fault-rise;
+    }

@@ -1,0 +1,79 @@
+-- What the tests of each kind of line ask, said of the numbers that the line is written from (document 01, "The circuit text"): the form without which it is
+-- refused by 2, the ranges of 3, and what 4, 5 and 6 compare. A second statement beside `Lines`, which reads fields out of bytes; they agree
+-- (proofs/FormsMeant).
+use Prim.Native.Nat.{ℕ, suc, _<_, _≤_}
+use mathlib.Core.Bool.{true}
+use mathlib.Core.List.{List, [], _∷_, _++_, map}
+use mathlib.Core.Logic.{_↔_}
+use mathlib.Core.Path.{_≡_}
+use lib.Dec.{leb}
+use lib.IntN.{pos}
+use lib.ListN.{length, getD}
+use Rattle.text.specs.Text.{comma}
+use Rattle.writing.specs.Writing.{Small, numbersOf}
+use Rattle.fields.specs.Fields.{valueAt}
+use Rattle.kinds.specs.Kinds.{kindWord}
+use Rattle.kinds.specs.declared.Kind.{Kind}
+use Rattle.kinds.specs.declared.Kind.the-variants.{And, Or, Nand, Nor, Xor, Xnor, Not}
+use Rattle.statements.specs.Lines.{circuitWord, gateWord, outputWord, faultWord, isHead, headFits, isGate, gateFits, readsBelow, isOutput, outputFits, isFault, faultFits, linesExist, linesRise}
+
+-- a line without its end: a word, then numbers, each behind a comma
+abbrev pub lineFrom : List ℕ → List ℕ → List ℕ
+lineFrom word ns = word ++ numbersOf (map pos ns)
+
+-- "`circuit,N,G,M,Q,K`: N inputs (1 to 8), G gates (0 to 48), M outputs (1 to 4), Q faults (1 to 32), cap K (1 to 4)"
+pub record HeadForm : Type 0 where
+  pub form : (l : List ℕ) → (isHead l ≡ true) ↔ ((ns : List ℕ) × Small ns × (length ns ≡ 5) × (l ≡ lineFrom circuitWord ns))
+  pub range : (n g m q k : ℕ) → let ns = n ∷ g ∷ m ∷ q ∷ k ∷ [] in Small ns
+      → (headFits (lineFrom circuitWord ns) ≡ true) ↔ ((1 ≤ n) × (n ≤ 8) × (g ≤ 48) × (1 ≤ m) × (m ≤ 4) × (1 ≤ q) × (q ≤ 32) × (1 ≤ k) × (k ≤ 4))
+
+-- "B is 1 to 56, and 0 for `not`"
+abbrev pub SecondInRange : Kind → ℕ → Type 0
+SecondInRange And b = (1 ≤ b) × (b ≤ 56)
+SecondInRange Or b = (1 ≤ b) × (b ≤ 56)
+SecondInRange Nand b = (1 ≤ b) × (b ≤ 56)
+SecondInRange Nor b = (1 ≤ b) × (b ≤ 56)
+SecondInRange Xor b = (1 ≤ b) × (b ≤ 56)
+SecondInRange Xnor b = (1 ≤ b) × (b ≤ 56)
+SecondInRange Not b = b ≡ 0
+
+abbrev pub gateFrom : Kind → ℕ → ℕ → List ℕ
+gateFrom kind a b = lineFrom (gateWord ++ (comma ∷ kindWord kind)) (a ∷ b ∷ [])
+
+-- "G lines `gate,KIND,A,B`": "A is 1 to 56", "Each of A and B is below the gate's own line."
+pub record GateForm : Type 0 where
+  pub form : (l : List ℕ) → (isGate l ≡ true) ↔ ((kind : Kind) × (a : ℕ) × (b : ℕ) × Small (a ∷ b ∷ []) × (l ≡ gateFrom kind a b))
+  pub range : (kind : Kind) (a b : ℕ) → Small (a ∷ b ∷ []) → (gateFits (gateFrom kind a b) ≡ true) ↔ ((1 ≤ a) × (a ≤ 56) × SecondInRange kind b)
+  pub below : (own : ℕ) (kind : Kind) (a b : ℕ) → Small (a ∷ b ∷ []) → (readsBelow own (gateFrom kind a b) ≡ true) ↔ ((a < own) × (b < own))
+
+-- "M lines `output,LINE,WEIGHT`: LINE 1 to 56, WEIGHT 1 to 15."
+pub record OutputForm : Type 0 where
+  pub form : (l : List ℕ) → (isOutput l ≡ true) ↔ ((ns : List ℕ) × Small ns × (length ns ≡ 2) × (l ≡ lineFrom outputWord ns))
+  pub range : (line weight : ℕ) → let ns = line ∷ weight ∷ [] in Small ns → (outputFits (lineFrom outputWord ns) ≡ true) ↔ ((1 ≤ line) × (line ≤ 56) × (1 ≤ weight) × (weight ≤ 15))
+  pub exists : (top line weight : ℕ) → let ns = line ∷ weight ∷ [] in Small ns → (leb (valueAt (lineFrom outputWord ns) 1) top ≡ true) ↔ (line ≤ top)
+
+-- LINE,VALUE one behind the other
+abbrev pub flatPairs : List (ℕ × ℕ) → List ℕ
+flatPairs [] = []
+flatPairs (p ∷ pairs) = p .0 ∷ p .1 ∷ flatPairs pairs
+
+-- LINE of pair i, and its VALUE
+abbrev pub lineOfPair : List (ℕ × ℕ) → ℕ → ℕ
+lineOfPair pairs i = getD pairs i (0, 0) .0
+
+abbrev pub valueOfPair : List (ℕ × ℕ) → ℕ → ℕ
+valueOfPair pairs i = getD pairs i (0, 0) .1
+
+-- one to three pairs of numbers
+pub record FaultPairs (pairs : List (ℕ × ℕ)) : Type 0 where
+  pub some : 1 ≤ length pairs
+  pub few : length pairs ≤ 3
+  pub small : Small (flatPairs pairs)
+
+-- "Q lines `fault,LINE,VALUE`, with one to three LINE,VALUE pairs: LINE 1 to 56 and rising, VALUE 0 or 1."
+pub record FaultForm : Type 0 where
+  pub form : (l : List ℕ) → (isFault l ≡ true) ↔ ((pairs : List (ℕ × ℕ)) × FaultPairs pairs × (l ≡ lineFrom faultWord (flatPairs pairs)))
+  pub range : (pairs : List (ℕ × ℕ)) → FaultPairs pairs
+      → (faultFits (lineFrom faultWord (flatPairs pairs)) ≡ true) ↔ ((i : ℕ) → i < length pairs → (1 ≤ lineOfPair pairs i) × (lineOfPair pairs i ≤ 56) × (valueOfPair pairs i ≤ 1))
+  pub exists : (top : ℕ) (pairs : List (ℕ × ℕ)) → FaultPairs pairs → (linesExist top (lineFrom faultWord (flatPairs pairs)) ≡ true) ↔ ((i : ℕ) → i < length pairs → lineOfPair pairs i ≤ top)
+  pub rise : (pairs : List (ℕ × ℕ)) → FaultPairs pairs → (linesRise (lineFrom faultWord (flatPairs pairs)) ≡ true) ↔ ((i : ℕ) → suc i < length pairs → lineOfPair pairs i < lineOfPair pairs (suc i))
