@@ -1,5 +1,5 @@
 #!/usr/bin/env bash
-# The benchmark from nothing: proves and builds the library and the program, builds the reference, prints the table.
+# The benchmark from nothing: proves and builds the library and the program, builds both packages, prints the table.
 set -eu
 cd "$(dirname "$0")/.."
 rt check signature > /dev/null

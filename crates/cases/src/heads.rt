@@ -79,7 +79,7 @@ fn call_of(parted: bool, word: &[u8]) -> Call {
     Call::Unknown
 }
 
-// Whether a comma stands before each number, and a line end behind the last.
+// Whether a comma stands before each number, and a line end after the last.
 fn is_parted(head: &[u8]) -> bool
     requires { ⌜ 54 ≤ length (now head) ⌝ }
 {
@@ -93,7 +93,7 @@ fn is_parted(head: &[u8]) -> bool
     head[53] == b'\n'
 }
 
-// The number behind comma k.
+// The number after comma k.
 fn size_at(head: &[u8], k: usize) -> usize
     requires { ⌜ (54 ≤ length (now head)) × (k ≤ 6) ⌝ }
     ensures { λ r. ⌜ r ≤ 10000000000 ⌝ }
@@ -101,7 +101,7 @@ fn size_at(head: &[u8], k: usize) -> usize
     numbers::decimal(head, 12 + 6 * k, 17 + 6 * k) as usize
 }
 
-// What a head says; one that is not parted right names no call.
+// What a head says; one that is not separated right names no call.
 pub fn read(head: &[u8]) -> CaseHead
     requires { ⌜ 54 ≤ length (now head) ⌝ }
     ensures { λ r. ⌜ (r .text ≤ 10000000000) × (r .list ≤ 10000000000) × (r .first ≤ 10000000000) × (r .second ≤ 10000000000) × (r .due ≤ 10000000000) ⌝ }

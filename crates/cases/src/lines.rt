@@ -15,7 +15,7 @@ pub fn narrow_word(n: u32) -> i32 {
     narrow(n as usize)
 }
 
-// A comma and a number, which take at most 12 bytes, from `at` on; gives the index behind them.
+// A comma and a number, which take at most 12 bytes, from `at` on; gives the index after them.
 fn put_number(out: &mut [u8], at: usize, z: i32) -> usize
     requires { ⌜ at + 12 ≤ length (now out) ⌝ }
     ensures { λ r. ⌜ r ≤ at + 12 ⌝ }
@@ -57,7 +57,7 @@ pub fn are_due(numbers: &[i32], due: &[u8]) -> bool
     text::same(&lines[..end], due)
 }
 
-// Whether it is with a line of a lent result behind it.
+// Whether it is with a line of a lent result after it.
 pub fn are_due_with(numbers: &[i32; 2], left: &[i32], due: &[u8]) -> bool {
     if 2056 < left.len() {
         return false;

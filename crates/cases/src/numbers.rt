@@ -31,7 +31,7 @@ pub fn decimal(bytes: &[u8], from: usize, end: usize) -> u64
     value
 }
 
-// The digits of the number at `at`, which has a sign before them and a comma or a line end behind them.
+// The digits of the number at `at`, which has a sign before them and a comma or a line end after them.
 fn digits_at(bytes: &[u8], at: usize) -> u64
     requires { ⌜ at + 12 ≤ length (now bytes) ⌝ }
     ensures { λ r. ⌜ r ≤ 10000000000 ⌝ }

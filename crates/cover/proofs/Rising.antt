@@ -93,7 +93,7 @@ rising-set (l ∷ ls) (y ∷ ys) r s sub =
     let q = rising-parts y ys s in
     go p q (eqb y l) refl (λ h. rising-set ls ys (p .1) (q .1) h) (λ h. rising-set ls (y ∷ ys) (p .1) s h)
   where
-    -- an entry of ys is not l where y is l or stands behind it
+    -- an entry of ys is not l where y is l or stands after it
     rest : ((z : ℕ) → List·Memᴰ z ys → earlier y z ≡ true) → (earlier y l ≡ true → ⊥) → (z : ℕ) → List·Memᴰ z ys → List·Memᴰ z ls
     rest q behind z m = ⊎-elim (λ e. absurd (behind (subst (λ (x : ℕ). earlier y x ≡ true) e (q z m)))) (λ k. k) (List·Memᴰ·cases-cons (sub z (List·Memᴰ·tail m)))
 

@@ -1,4 +1,4 @@
--- The three demands, as theorems:
+-- The three demands, as laws:
 --   demand-one      every refusal has its number and place, exactly where it holds, and writes nothing
 --   demand-two      spectra both ways, under faults too, and readings
 --   all-demands     these and planner's demand-three

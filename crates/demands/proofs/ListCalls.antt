@@ -88,7 +88,7 @@ module _ (B : ℕ) (l : List ℤ) (x : ℕ) where
   unfolding outsideAt
   beyond-back h = large-outside B (nth l x) h
 
--- the screen, and what is tested behind it
+-- the screen, and what is tested after it
 module _ (B : ℕ) (right : Bool) (Right : Type 0) (means : (right ≡ true) ↔ Right) (l : List ℤ) (room due : ℕ) (rest : Answer) (next : ℕ → ℕ → Type 0)
     (behind : screenOf (minus B) (pos B) right l room due ≡ Done → next (answerNumber rest) (answerPlace rest)) where
   abbrev first : ℕ

@@ -12,7 +12,7 @@ use Rattle.netlist.specs.Parsing.{accepted, rejected, parseOf}
 abbrev pub NoRefusal : ℕ → ℕ → Type 0
 NoRefusal number place = (number ≡ 0) × (place ≡ 0)
 
--- the test fails, and its number is given with the place; or it fails at no place, and the tests behind it decide
+-- the test fails, and its number is given with the place; or it fails at no place, and the tests after it decide
 pub data RefusedIf (refusal : ℕ) (fails : ℕ → Type 0) (next : ℕ → ℕ → Type 0) (number place : ℕ) : Type 0 where
   by-this : fails place → number ≡ refusal → RefusedIf refusal fails next number place
   by-later : ((p : ℕ) → fails p → ⊥) → next number place → RefusedIf refusal fails next number place

@@ -8,7 +8,7 @@
 --   stuck-not-few, -uneven, -binary, -right-means       `stuckRight`, test by test, and what it means
 --   opened-not-few, -too-many, -binary, -right-means    `openedRight` likewise
 --   kept-is, kept-none, kept-above, kept-right, kept-most    `keptOf` is above 0 exactly for right arguments, and at most 10
---   lines-after, rising-after                           the lines behind line n
+--   lines-after, rising-after                           the lines after line n
 --   OpenedCall, opened-call                             what a call with right arguments knows
 use mathlib.Core.Path.{_≡_, refl, sym, ap, _∙_, subst}
 use mathlib.Core.List.{List, [], _∷_}
@@ -220,7 +220,7 @@ module _ (inputs : ℕ) (values : List ℕ) where
       pick true e = let r = opened-right-means e .fewer in sym (lt-ltb 0 (keptOf inputs values) (omega (arith, kept-is e)))
       pick false e = sym (le-ltb 0 (keptOf inputs values) (omega (arith, kept-none e)))
 
--- The lines behind line n.
+-- The lines after line n.
 
 pub lines-after : (n : ℕ) (values : List ℕ) → length values ≤ 3 → stuckOf (take (length values) ((n + 1) ∷ (n + 2) ∷ (n + 3) ∷ [])) values ≡ linesAfter n values
 unfolding stuckOf linesAfter

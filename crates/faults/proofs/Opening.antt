@@ -100,7 +100,7 @@ module _ (rows : List ℤ) (values : List ℕ) (n m : ℕ) (size : length rows �
       ap not
       (eq-eqb _ 0 (ap (λ (z : ℤ). natAbs z % 2 ^ length values) (sum-is l (subst (λ (k : ℕ). l < 2 ^ k) kept h)) ∙ multiple-mod (2 ^ length values) (signedSum (2 ^ n) (openedRow n values rows) l)))
 
--- no label of the n inputs names a line behind them
+-- no label of the n inputs names a line after them
 names-none : (values : List ℕ) (n c l : ℕ) → l < 2 ^ n → n ≤ c → names (linesAfter c values) l ≡ false
 unfolding names linesAfter
 names-none [] n c l h g = refl

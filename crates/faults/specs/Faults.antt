@@ -77,7 +77,7 @@ openedRight inputs values = fewOf (length values) && (ltb (length values) inputs
 abbrev pub keptInputs : List ℤ → List ℕ → ℕ
 keptInputs coefficients values = inputsOf (length coefficients) - length values
 
--- the lines behind line n, with their values
+-- the lines after line n, with their values
 unfoldable pub linesAfter : ℕ → List ℕ → List Stuck
 linesAfter n [] = []
 linesAfter n (v ∷ rest) = record { line = suc n; value = v } ∷ linesAfter (suc n) rest

@@ -1,6 +1,6 @@
 -- Lines that are written as a word and numbers, and what the tests on fields show:
 --   plain-line, plain-count, plain-value, plain-numbers    a word and numbers: it has that form, and its numbers are read
---   value-behind, line-behind                              the same behind a first word and a comma
+--   value-behind, line-behind                              the same after a first word and a comma
 --   range, in-range, fits-range                            a number within its range, both ways
 --   absent                                                 a field that is not there counts as 0
 use mathlib.Core.Path.{_≡_, refl, sym, ap, _∙_}
@@ -39,7 +39,7 @@ unfolding numbersFrom
 numbers-all l k zero h = refl
 numbers-all l k (suc count) h = rw (h k (omega arith) (omega arith)) (numbers-all l (suc k) count (λ i a b. h i (omega arith) (omega arith)))
 
--- ns stand behind a word, all below 10,000
+-- ns stand after a word, all below 10,000
 module _ (word ns : List ℕ) (small : Small ns) (lacks : Lacks comma word) where
   pub plain-count : fieldCount (word ++ numbersOf (map pos ns)) ≡ suc (length ns)
   plain-count = line-count word (map pos ns) lacks ∙ ap suc (length-map ns pos)
@@ -70,7 +70,7 @@ pub in-range : (v low high : ℕ) → low ≤ v → v ≤ high → inRange v low
 unfolding inRange
 in-range v low high a b = rw (le-leb low v a, le-leb v high b)
 
--- behind a first word and a comma
+-- after a first word and a comma
 module _ (word rest : List ℕ) (lacks : Lacks comma word) where
   pub value-behind : (k : ℕ) → valueAt (word ++ (comma ∷ rest)) (suc k) ≡ valueAt rest k
   unfolding valueAt

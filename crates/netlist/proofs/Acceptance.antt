@@ -108,7 +108,7 @@ netlistIn d (rejected number place) = d
 never : {X : Type 0} (number place : ℕ) (n : Netlist) → rejected number place ≡ accepted n → X
 never number place n e = absurd (false≢true (ap isAccepted e))
 
--- the lines behind an accepted text's first are read, stage by stage, and nothing is left
+-- the lines after an accepted text's first are read, stage by stage, and nothing is left
 pub record BodyRead (h : Head) (rest : List ℕ) (n : Netlist) : Type 0 where
   pub after-gates : List ℕ
   pub after-outputs : List ℕ
@@ -167,7 +167,7 @@ body-right h right rest n b =
       faults-right = λ j k. let s = f .0 j k in rw (← same, s .is) (fault-right top (s .line) (s .passes));
     }
 
--- the first line passes, and the lines behind it are read
+-- the first line passes, and the lines after it are read
 pub text-read-through : (text : List ℕ) (n : Netlist) → parseOf text ≡ accepted n
     → (lineRefusal headRefusal text ≡ 0) × BodyRead (headOf (before lineEnd text)) (after lineEnd text) n
 unfolding parseOf

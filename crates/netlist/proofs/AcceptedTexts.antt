@@ -24,7 +24,7 @@ use Rattle.netlist.proofs.CircuitLines.{headWritten, head-only, gate-on
 use Rattle.netlist.proofs.CircuitsWritten.{gatesText, outputsText, faultsText, text-short, text-accepted}
 
 module _ (h : Head) (n : Netlist) (rest : List ℕ) (b : BodyRead h rest n) where
-  -- the head is n's, and what stands behind it is what is written for n
+  -- the head is n's, and what stands after it is what is written for n
   body-only : (h ≡ headWritten n) × (rest ≡ gatesText n ++ (outputsText n ++ faultsText n))
   unfolding gatesIn outputsIn faultsIn
   body-only =

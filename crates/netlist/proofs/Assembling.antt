@@ -1,6 +1,6 @@
 -- The parser's stages put together:
 --   gates-stop, outputs-stop, faults-stop    a stage that refuses a line refuses the text
---   bytes-left, all-read                     what is left behind the last line refuses it, else it is accepted
+--   bytes-left, all-read                     what is left after the last line refuses it, else it is accepted
 --   head-stop, head-passed                   the same for the text's length and first line
 --   meant                                    the parser's answer to a text that is refused
 use mathlib.Core.Path.{_≡_, sym, ap, _∙_}
@@ -24,7 +24,7 @@ pub meant : (p : Parsed) {number place : ℕ} → p .number ≡ number → p .pl
 unfolding meaning
 meant p {number} {place} e k n = rw (e, k, ne-eqb number 0 n)
 
--- the three stages, each behind the one before
+-- the three stages, each after the one before
 module _ (h : Head) (text : List ℕ) where
   abbrev pub Gates : ℕ → Type 0
   Gates from = Stage (nthGateRefusal (h .inputs)) gateOf text from 2 (h .gates)

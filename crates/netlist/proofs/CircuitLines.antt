@@ -121,7 +121,7 @@ gate-told own g h r =
     ns : List ℕ
     ns = g .a ∷ g .b ∷ []
 
-    -- their line has 16 bytes behind a kind of four
+    -- their line has 16 bytes after a kind of four
     longest : List ℕ
     longest = 56 ∷ 56 ∷ []
 

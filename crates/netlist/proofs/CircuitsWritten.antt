@@ -29,7 +29,7 @@ pub head-read : {bytes : ℕ} (text rest : List ℕ) (h : Head) → Told bytes h
 unfolding parseOf unless
 head-read text rest h t few = rw (le-ltb textBytes (length (text ++ rest)) few, told-has t rest, told-before t rest, t .passes, told-after t rest, t .says)
 
--- the parts of the text behind its first line
+-- the parts of the text after its first line
 abbrev pub gatesText : Netlist → List ℕ
 gatesText n = eachLine gateLine noGate (n .gates)
 

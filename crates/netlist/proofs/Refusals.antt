@@ -31,7 +31,7 @@ use Rattle.netlist.specs.Places.{textHead, linesDue, dueRefusal, refusal
 use Rattle.netlist.proofs.Acceptance.{head-fits}
 use Rattle.netlist.proofs.Assembling.{too-long}
 
--- the line that is due behind so many others
+-- the line that is due after so many others
 
 due-number : (h : Head) (k : ℕ) (l : List ℕ) → LineNumber (dueRefusal h k l)
 unfolding dueRefusal
@@ -85,7 +85,7 @@ module _ (text : List ℕ) (few : length text ≤ textBytes) where
   abbrev h : Head
   h = textHead text
 
-  -- `count` lines of one kind behind m lines that pass: a refusal among them, or what comes behind them
+  -- `count` lines of one kind after m lines that pass: a refusal among them, or what comes after them
   module _ {A : Type 0} (refusal : ℕ → List ℕ → ℕ) (item : List ℕ → A) (m count low : ℕ) (within : m + count ≤ linesDue h) (low-is : low ≡ m + 1)
       (due : (j : ℕ) (l : List ℕ) → j < count → dueRefusal h (m + j) l ≡ refusal j l) where
     module _ (rest : List ℕ) (rest-is : rest ≡ linesFrom m text) (passing : Passing text m) where

@@ -48,7 +48,7 @@ pub record DuePass (text : List ℕ) : Type 0 where
   pub few : length text ≤ textBytes
   pub each : (k : ℕ) → k < linesDue (textHead text) → refusalAt text k ≡ 0
 
--- the text behind them
+-- the text after them
 abbrev pub behindDue : List ℕ → List ℕ
 behindDue text = linesFrom (linesDue (textHead text)) text
 

@@ -154,7 +154,7 @@ fn refused(number: u32, place: usize) -> Parsed
     }
 }
 
-// The lines behind the first, from `from` on.
+// The lines after the first, from `from` on.
 fn body(text: &[u8], from: usize, head: Head) -> Parsed
     requires { ⌜ (head .inputs ≤ 8) × (head .gates ≤ 48) × (head .outputs ≤ 4) × (head .faults ≤ 32) ⌝ }
     ensures { λ r. ⌜ (meaning r ≡ bodyOf head (drop from (now (text .entry)))) × Sized (r .circuit) × (r .number ≡ 0 → r .place ≡ 0) ⌝ }

@@ -1,7 +1,7 @@
 -- The report:
 --   report-fits        the report on any text has at most 715 bytes
 --   report-front       it stands at the front of the lent bytes, as many as the call counts
---   plan-lines-length, labels-room, faults-room, plan-written    all lines of a plan, and writing them one part behind the other
+--   plan-lines-length, labels-room, faults-room, plan-written    all lines of a plan, and writing them one part after the other
 --   verdict-fitting    the numbers of a verdict are small, and its labels are at most 4 labels of the circuit
 --   refused-by, planned-by    a verdict's lines, by its numbers
 --   refusal-small      the numbers of a text's refusal
@@ -70,7 +70,7 @@ module _ (n : Netlist) (right : WellFormed n) (labels : List ℕ) (low : Below (
         let q = fault-count n in
         omega (arith, long, a, label-part, fault-part, small, q, right .faults-high)
 
-    -- written one behind the other
+    -- written one after the other
     module _ (out : List ℕ) (wide : reportBytes ≤ length out) {at : ℕ} {one : List ℕ} (first : (at ≡ 0 + length A) × (one ≡ placed 0 A out)) where
       head : length A ≤ 7
       head = plan-length (length labels) (omega (arith, small))

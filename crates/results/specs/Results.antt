@@ -6,7 +6,7 @@ use lib.ListN.{length, drop}
 use Rattle.screen.specs.declared.Answer.{Answer}
 use Rattle.screen.specs.declared.Answer.the-variants.{Done, Refused}
 
--- the new numbers, and behind them what was lent
+-- the new numbers, and after them what was lent
 abbrev pub written : List ℤ → List ℤ → List ℤ
 written new out = new ++ drop (length new) out
 

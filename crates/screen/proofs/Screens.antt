@@ -11,7 +11,7 @@
 --   Screened, screen-done, done-screen          what the answer Done of `screenOf` means
 --   Ready, ready                                and what a call knows by it
 --   screen-unsized, -wrong, -outside, -short    its refusals, in their order
---   screen-not-11, screen-due, first-passed     11 is none of them, what is due counts only for right arguments, tests behind it
+--   screen-not-11, screen-due, first-passed     11 is none of them, what is due counts only for right arguments, tests after it
 use mathlib.Core.Path.{_≡_, refl, sym, ap, ap₂, _∙_}
 use mathlib.Core.List.{List}
 use mathlib.Core.Bool.{Bool, true, false, not, cond, _||_, or-true, or-assoc}

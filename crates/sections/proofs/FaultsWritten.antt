@@ -1,6 +1,6 @@
 -- The line of a fault is accepted as that fault, and no other line is:
 --   fault-told    a line of one, two or three pairs that rise, each a line of the circuit
---   Pairs         the numbers behind the first pair: those of none, one or two more
+--   Pairs         the numbers after the first pair: those of none, one or two more
 --   fault-only    a line that is accepted is the line of the fault that it says
 use mathlib.Core.Path.{_≡_, refl, sym, ap, ap₂, _∙_, subst}
 use mathlib.Core.Bool.{Bool, true, false, cond, _&&_, _||_}
@@ -70,7 +70,7 @@ module _ (l : List ℕ) (k : ℕ) (s : Pair) (line-is : valueAt l k ≡ s .line)
 abbrev PairIn : List ℕ → ℕ → Pair → Type 0
 PairIn more k s = (getD more k 0 ≡ s .line) × (getD more (suc k) 0 ≡ valueBit (s .value))
 
--- `more` are the numbers of the pairs behind the first
+-- `more` are the numbers of the pairs after the first
 record Pairs (f : Fault) (more : List ℕ) : Type 0 where
   written : pairWritten (f .second) ++ pairWritten (f .third) ≡ map pos more
   whole : (eqb (3 + length more) 3 || eqb (3 + length more) 5 || eqb (3 + length more) 7) ≡ true

@@ -24,7 +24,7 @@ line-taken refusal rest e =
 
 module _ {A : Type 0} (refusal : ℕ → List ℕ → ℕ) (item : List ℕ → A) (line : A → List ℕ) (none : A)
     (each : (j : ℕ) (l : List ℕ) → refusal j l ≡ 0 → l ++ (lineEnd ∷ []) ≡ line (item l)) where
-  -- behind those that were read
+  -- after those that were read
   only-behind : (left place : ℕ) (rest : List ℕ) (read l : List A) (end : List ℕ) → linesOf refusal item left place rest read ≡ items l end
       → (m : List A) × (l ≡ read ++ m) × (length m ≡ left) × (rest ≡ eachLine line none m ++ end)
   unfolding linesOf eachLine gather

@@ -1,7 +1,7 @@
 -- What lines one after the other show, by how they are answered:
 --   Says, Said, lines-said    lines that are read are each accepted by their own tests
---   lines-further             the text behind m lines and k more
---   Passed, lines-passed      each of them passes its own test, and what follows is the text behind them
+--   lines-further             the text after m lines and k more
+--   Passed, lines-passed      each of them passes its own test, and what follows is the text after them
 --   Stopped, lines-stopped    lines that are refused: the first that is, with its number, and its place counted from that of the first line
 use mathlib.Core.Path.{_≡_, refl, sym, ap, _∙_, subst, subst⁻¹}
 use mathlib.Core.Bool.{Bool, true, false, cond, true≢false, false≢true}
@@ -93,7 +93,7 @@ lines-further (suc m) k text =
     lines-further m k (after lineEnd text) ∙ ap (λ (i : ℕ). linesFrom i text) e
 
 module _ (refusal : ℕ → List ℕ → ℕ) where
-  -- the line of `rest` behind k others passes, where `from` lines of its kind stand before `rest`
+  -- the line of `rest` after k others passes, where `from` lines of its kind stand before `rest`
   abbrev pub PassesAt : ℕ → List ℕ → ℕ → Type 0
   PassesAt from rest k = lineRefusal (refusal (from + k)) (linesFrom k rest) ≡ 0
 
@@ -104,7 +104,7 @@ module _ (refusal : ℕ → List ℕ → ℕ) where
     pub passing : Passing from rest count
     pub end-is : end ≡ linesFrom count rest
 
-  -- the first line that is refused, behind `lines` others
+  -- the first line that is refused, after `lines` others
   pub record Stopped (from : ℕ) (rest : List ℕ) (count low number place : ℕ) : Type 0 where
     pub lines : ℕ
     pub within : lines < count
@@ -113,7 +113,7 @@ module _ (refusal : ℕ → List ℕ → ℕ) where
     pub some : number ≡ 0 → ⊥
     pub passing : Passing from rest lines
 
-  -- the first line passes, and so do those behind it
+  -- the first line passes, and so do those after it
   passing-cons : (from count : ℕ) (rest : List ℕ) → lineRefusal (refusal from) rest ≡ 0 → Passing (from + 1) (after lineEnd rest) count → Passing from rest (suc count)
   unfolding linesFrom
   passing-cons from count rest first p zero h = ap (λ (i : ℕ). lineRefusal (refusal i) rest) (add-zero from) ∙ first

@@ -49,7 +49,7 @@ module _ {A : Type 0} {bytes : ℕ} (refusal : ℕ → List ℕ → ℕ) (item :
   unfolding linesOf unless
   line-read left place text rest read x t = rw (told-has t rest, told-before t rest, t .passes, told-after t rest, t .says)
 
-  -- behind those that were read
+  -- after those that were read
   lines-behind : (l read : List A) (place : ℕ) (rest : List ℕ) → ((j : ℕ) → j < length l → Told bytes (refusal (length read + j)) item (line (getD l j none)) (getD l j none))
       → linesOf refusal item (length l) place (eachLine line none l ++ rest) read ≡ items (read ++ l) rest
   unfolding linesOf eachLine gather

@@ -31,7 +31,7 @@ linesOf refusal item (suc left) place rest read =
 unfoldable pub readOf : {A : Type 0} → List ℕ → ℕ → ℕ → ℕ → ℕ → List A → Read A
 readOf text count number place at l = cond (eqb number 0) (items (take count l) (drop at text)) (lineRefused number place)
 
--- the text behind its first k lines
+-- the text after its first k lines
 unfoldable pub linesFrom : ℕ → List ℕ → List ℕ
 linesFrom zero text = text
 linesFrom (suc k) text = linesFrom k (after lineEnd text)

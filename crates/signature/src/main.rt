@@ -19,21 +19,49 @@ fn written(text: &[u8], out: &mut [u8], work: &mut [u32]) -> usize
     r.bytes
 }
 
-// Prints the report on a text. It asks for that report, so that nothing else is printed.
-fn print(report: &[u8], text: &[u8]) -> bool
+// Prints the report on a text, or says that it could not. It asks for that report, so that nothing else is printed.
+fn print(report: &[u8], text: &[u8])
     requires { ⌜ now report ≡ reportOf (now text) ⌝ }
 {
-    io::write_all(STDOUT_FILENO, report)
+    if !io::write_all(STDOUT_FILENO, report) {
+        os::fail(b"signature: standard output");
+    }
+}
+
+// One read into `rest`, of at least one byte unless the input has ended. A read that fails is told and ends the input.
+fn read_some(rest: &mut [u8]) -> usize
+    ensures { λ r. ⌜ Counts r (now (rest .exit)) ⌝ }
+{
+    let got = libc::read(STDIN_FILENO, rest);
+    if got < 0 {
+        os::fail(b"signature: standard input");
+    }
+    io::count(got, rest)
+}
+
+// Reads until the input ends or `text` is full. The library's `io::read_full` does not tell an end from a failure.
+fn read_text(text: &mut [u8]) -> usize
+    ensures { λ r. ⌜ Counts r (now (text .exit)) ⌝ }
+{
+    let mut length = 0;
+    while length < text.len() {
+        let more = read_some(&mut text[length..]);
+        if more == 0 {
+            break;
+        }
+        length += more;
+    }
+    length
 }
 
 // Asks for room for one byte more than a text may have, and fills it, so that a longer input is refused by its length and never cut to a text that passes.
-fn answer(text: &mut [u8], out: &mut [u8], work: &mut [u32]) -> bool
+fn answer(text: &mut [u8], out: &mut [u8], work: &mut [u32])
     requires { ⌜ textBytes + 1 ≤ length (now text) ⌝ }
     requires { ⌜ (reportBytes ≤ length (now out)) × (workingNumbers ≤ length (now work)) ⌝ }
 {
-    let length = io::read_full(STDIN_FILENO, text);
+    let length = read_text(text);
     let bytes = written(&text[..length], out, work);
-    print(&out[..bytes], &text[..length])
+    print(&out[..bytes], &text[..length]);
 }
 
 fn main() {

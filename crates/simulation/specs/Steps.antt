@@ -16,7 +16,7 @@ use Rattle.statements.specs.declared.Output.{Output}
 use Rattle.gates.specs.Steps.{shownAt}
 use Rattle.simulation.specs.Rows.{inputValues, reads, weighed}
 
--- line values of the row x are `lines x`; a line behind the last shows 0
+-- line values of the row x are `lines x`; a line after the last shows 0
 pub record Columns (values : List Bool) (n : ℕ) (lines : ℕ → List Bool) : Type 0 where
   pub each : (line x : ℕ) → line < 58 → x < n → shownAt values line x ≡ reads (lines x) line
 

@@ -31,7 +31,7 @@ fn slot(line: u16) -> usize
     if line < 57 { line as usize } else { 57 }
 }
 
-// The columns of the gates, behind those of the inputs.
+// The columns of the gates, after those of the inputs.
 fn gate_columns(values: &mut [bool], c: Circuit, f: Fault, n: usize)
     requires { ⌜ Sized c × (length (now values) ≡ 14848) × (n ≤ 256) × Columns (now values) n (inputLines f (c .head .inputs)) ⌝ }
     ensures { λ _. ⌜ Columns (now (values .exit)) n (lineValues (netlistOf c) f) ⌝ }

@@ -17,7 +17,7 @@ use Rattle.kinds.specs.declared.Kind.{Kind}
 use Rattle.kinds.specs.declared.Kind.the-variants.{And, Or, Nand, Nor, Xor, Xnor, Not}
 use Rattle.statements.specs.Lines.{circuitWord, gateWord, outputWord, faultWord, isHead, headFits, isGate, gateFits, readsBelow, isOutput, outputFits, isFault, faultFits, linesExist, linesRise}
 
--- a line without its end: a word, then numbers, each behind a comma
+-- a line without its end: a word, then numbers, each after a comma
 abbrev pub lineFrom : List ℕ → List ℕ → List ℕ
 lineFrom word ns = word ++ numbersOf (map pos ns)
 
@@ -52,7 +52,7 @@ pub record OutputForm : Type 0 where
   pub range : (line weight : ℕ) → let ns = line ∷ weight ∷ [] in Small ns → (outputFits (lineFrom outputWord ns) ≡ true) ↔ ((1 ≤ line) × (line ≤ 56) × (1 ≤ weight) × (weight ≤ 15))
   pub exists : (top line weight : ℕ) → let ns = line ∷ weight ∷ [] in Small ns → (leb (valueAt (lineFrom outputWord ns) 1) top ≡ true) ↔ (line ≤ top)
 
--- LINE,VALUE one behind the other
+-- LINE,VALUE one after the other
 abbrev pub flatPairs : List (ℕ × ℕ) → List ℕ
 flatPairs [] = []
 flatPairs (p ∷ pairs) = p .0 ∷ p .1 ∷ flatPairs pairs

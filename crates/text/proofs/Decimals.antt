@@ -1,6 +1,6 @@
 -- Laws of `numberOf`:
 --   number-le    a number is at most 9999
---   decimal-lt   digits behind v make a number below the next power of ten
+--   decimal-lt   digits after v make a number below the next power of ten
 --   number-empty, number-long, number-zero, number-digits    what the tests before the digits show
 --   digit-low, digit-high, digit-step, digit-end             what one turn of the loop over the digits shows
 --   ten-le       powers of ten grow
@@ -48,7 +48,7 @@ number-le l v e = by (wellFormed l) (formed-le l) e
     by true h e = let q : decimalFrom 0 l ≡ v = cc in omega (arith, h refl)
     by false h e = let z : _≡_ {A = ℕ} 0 1 = cc in absurd (omega arith)
 
--- the number that digits from here on make behind v; bad where one is no digit
+-- the number that digits from here on make after v; bad where one is no digit
 unfoldable pub numberFrom : ℕ → List ℕ → Number
 numberFrom v l = cond (digits l) (Value (decimalFrom v l)) Bad
 

@@ -72,7 +72,7 @@ unfoldable pub digits : List ℕ → Bool
 digits [] = true
 digits (x ∷ rest) = (leb 48 x && leb x 57) && digits rest
 
--- the number that digits make behind v
+-- the number that digits make after v
 unfoldable pub decimalFrom : ℕ → List ℕ → ℕ
 decimalFrom v [] = v
 decimalFrom v (x ∷ rest) = decimalFrom (v * 10 + (x - 48)) rest

@@ -1,4 +1,4 @@
-// Holds every call of document 01 to stored cases that the second implementation (reference/) made. They come on standard input, one behind the
+// Holds every call of document 01 to stored cases that the second implementation (reference/) made. They come on standard input, one after the
 // other. A case has a head of 54 bytes, `CALL,TTTTT,LLLLL,AAAAA,BBBBB,RRRRR,WWWWW,DDDDD` and 0A: the call's word, filled up with spaces to 11 bytes;
 // how many bytes its text has, how many numbers its list, its first and its second arguments; how many numbers (a report: bytes) and how many
 // working numbers are lent; how many bytes are due. Then come the text, the list, the arguments (each number a sign, ten digits, and a comma or 0A)
@@ -132,7 +132,7 @@ fn list_holds(h: CaseHead, text: &[u8], numbers: &[u8], list: &mut [i32], rest: 
     rest_holds(h, text, list, rest)
 }
 
-// Everything behind the text is in `rest`.
+// Everything after the text is in `rest`.
 fn numbers_hold(h: CaseHead, text: &[u8], rest: &[u8]) -> bool {
     let l = h.list;
     if 2056 < l {

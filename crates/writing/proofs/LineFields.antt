@@ -1,10 +1,10 @@
 -- A line that was written, as it is read:
 --   line-has, line-before, line-after       in front of a rest it is cut off at its end: no 0A stands inside
 --   word-field, number-field, line-count    its fields: the word, where that has no comma, then each number; how many there are
---   next-field, next-count                  the fields behind a word and a comma
+--   next-field, next-count                  the fields after a word and a comma
 --   natural-read                            a natural number below 10,000 is read as itself
 --   AtMost, most-small, line-longest        numbers that are at most some others: below 10,000 where those are, and a line of them is no longer
---   gather-cons                             texts one behind the other, by the first of them
+--   gather-cons                             texts one after the other, by the first of them
 use mathlib.Core.Path.{_≡_, refl, sym, ap, _∙_}
 use mathlib.Core.Bool.{Bool, true, false, cond, _&&_}
 use mathlib.Core.List.{List, [], _∷_, _++_, append-assoc, append-nil, map}
@@ -44,7 +44,7 @@ index-behind b (x ∷ l) rest e = by (eqb x b) (index-behind b l rest) e
 pub lacks-append : (b : ℕ) (l m : List ℕ) → Lacks b l → Lacks b m → Lacks b (l ++ m)
 lacks-append b l m e f = omega (arith, index-behind b l m e, length-append l m)
 
--- up to the first b and behind it
+-- up to the first b and after it
 module _ (b : ℕ) (l rest : List ℕ) (lacks : Lacks b l) where
   index-first : indexOf b (l ++ (b ∷ rest)) ≡ length l
   unfolding indexOf
@@ -85,7 +85,7 @@ lacks-integer b z h = by (ltZ z (pos 0)) (lacks-digits b (decimalOf (natAbs z)) 
     by true e = rw (ne-eqb minusSign b (λ q. omega arith)) (ap suc e)
     by false e = e
 
--- ---- texts one behind the other
+-- ---- texts one after the other
 
 pub gather-cons : (f : ℕ → List ℕ) (n : ℕ) → gather f (suc n) ≡ f 0 ++ gather (λ i. f (suc i)) n
 unfolding gather
@@ -99,7 +99,7 @@ lacks-gather b f (suc n) h = lacks-append b (gather f n) (f n) (lacks-gather b f
 
 -- ---- the fields of a line
 
--- the fields behind a first one
+-- the fields after a first one
 module _ (word rest : List ℕ) (lacks : Lacks comma word) where
   pub first-field : fieldOf (word ++ (comma ∷ rest)) 0 ≡ word
   unfolding fieldOf

@@ -120,7 +120,7 @@ read-back n h = rw (formed n h, digits-read n)
 digit-range : (x : ℕ) → (leb 48 x && leb x 57) ≡ true → (48 ≤ x) × (x ≤ 57)
 digit-range x e = let r = both (leb 48 x) (leb x 57) e in (leb-true 48 x (r .0), leb-true x 57 (r .1))
 
--- digits behind those of v, which does not begin with 0
+-- digits after those of v, which does not begin with 0
 behind : (v : ℕ) (l : List ℕ) → 1 ≤ v → digits l ≡ true → decimalOf v ++ l ≡ decimalOf (decimalFrom v l)
 unfolding digits decimalFrom
 behind v [] h e = append-nil (decimalOf v)

@@ -1,9 +1,9 @@
 -- What the writer leaves, and how long it is:
---   placed-join      what is placed behind what was placed is placed with it
+--   placed-join      what is placed after what was placed is placed with it
 --   placed-turn      one byte more
 --   decimal-one, decimal-more    a number by its last digit
 --   decimal-length, integer-length    a number below 10^k has at most k digits
---   gather-length, gather-le, gather-ext    texts one behind the other
+--   gather-length, gather-le, gather-ext    texts one after the other
 --   none-written, text-more, all-written    writing them, one more at a time
 --   line-one, line-two, line-three          how long a line is, by its numbers
 use mathlib.Core.Path.{_≡_, refl, sym, ap, ap₂, _∙_, subst}
@@ -125,7 +125,7 @@ decimal-more n h =
     ap (λ (t : Bool). cond t (decimalDigit n ∷ []) (decimalTo n (n / 10) ++ (decimalDigit n ∷ []))) (le-ltb n 10 h)
     ∙ ap (λ (l : List ℕ). l ++ (decimalDigit n ∷ [])) (enough n (suc (n / 10)) (n / 10) (omega arith) (omega arith))
 
--- writing a number: its only digit, or its last one behind those of a tenth
+-- writing a number: its only digit, or its last one after those of a tenth
 module _ (at n : ℕ) (out : List ℕ) (fits : at + length (decimalOf n) ≤ length out) where
   module _ (h : n < 10) where
     one-long : length (decimalOf n) ≡ 1
@@ -215,7 +215,7 @@ integer-length k z h = go (ltZ z (pos 0)) (decimal-length k (natAbs z) h)
 pub natural-length : (k n : ℕ) → n < 10 ^ suc k → length (integerOf (pos n)) ≤ suc k
 natural-length k n h = let e = ap length (natural-written n) in let l = decimal-length k n h in omega (arith, e, l)
 
--- ---- texts one behind the other
+-- ---- texts one after the other
 
 pub gather-length : (B : ℕ) (f : ℕ → List ℕ) (n : ℕ) → ((i : ℕ) → i < n → length (f i) ≤ B) → length (gather f n) ≤ n * B
 unfolding gather
@@ -255,7 +255,7 @@ unfolding gather
 gather-ext f g zero h = refl
 gather-ext f g (suc n) h = ap₂ _++_ (gather-ext f g n (λ i l. h i (omega (arith, l)))) (h n (omega arith))
 
--- writing n texts one behind the other: `now` holds the first i of them, and `end` is where they end
+-- writing n texts one after the other: `now` holds the first i of them, and `end` is where they end
 abbrev pub WrittenSoFar : ℕ → (ℕ → List ℕ) → ℕ → List ℕ → ℕ → List ℕ → ℕ → Type 0
 WrittenSoFar at f n out i now end = (i ≤ n) × (now ≡ placed at (gather f i) out) × (end ≡ at + length (gather f i))
 

@@ -17,7 +17,7 @@ placed at new out = take at out ++ (new ++ drop (at + length new) out)
 abbrev pub decimalDigit : ℕ → ℕ
 decimalDigit n = 48 + n % 10
 
--- the last digit stands behind those of a tenth; `most` is a number of digits that is enough
+-- the last digit stands after those of a tenth; `most` is a number of digits that is enough
 unfoldable pub decimalTo : ℕ → ℕ → List ℕ
 decimalTo zero n = []
 decimalTo (suc most) n = cond (ltb n 10) (decimalDigit n ∷ []) (decimalTo most (n / 10) ++ (decimalDigit n ∷ []))
@@ -31,7 +31,7 @@ minusSign = 45
 unfoldable pub integerOf : ℤ → List ℕ
 integerOf z = cond (ltZ z (pos 0)) (minusSign ∷ decimalOf (natAbs z)) (decimalOf (natAbs z))
 
--- n texts one behind the other
+-- n texts one after the other
 unfoldable pub gather : (ℕ → List ℕ) → ℕ → List ℕ
 gather f zero = []
 gather f (suc n) = gather f n ++ f n
@@ -43,7 +43,7 @@ numberField numbers i = comma ∷ integerOf (nth numbers i)
 unfoldable pub numbersOf : List ℤ → List ℕ
 numbersOf numbers = gather (numberField numbers) (length numbers)
 
--- a word, then numbers, parted by commas
+-- a word, then numbers, separated by commas
 unfoldable pub lineOf : List ℕ → List ℤ → List ℕ
 lineOf word numbers = word ++ (numbersOf numbers ++ (lineEnd ∷ []))
 

@@ -1,4 +1,4 @@
-// A writer of bytes and decimals into a lent text. Each call writes from index `at` on and gives the index behind what it wrote.
+// A writer of bytes and decimals into a lent text. Each call writes from index `at` on and gives the index after what it wrote.
 ghost use mathlib.Core.Path.{_≡_};
 ghost use Prim.Native.Nat.{_+_, _≤_};
 ghost use lib.IntN.{natAbs};

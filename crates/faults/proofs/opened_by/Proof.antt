@@ -1,4 +1,4 @@
--- The working numbers hold the coefficients, then the stuck-input formula's numbers for the lines behind the kept inputs, of which the first
+-- The working numbers hold the coefficients, then the stuck-input formula's numbers for the lines after the kept inputs, of which the first
 -- 2 ^ kept are the sums over the opened lines. These are divided by 2 ^ k.
 use borrow.Author.Needs.{needs}
 use Prim.Native.Nat.{ℕ, _+_, _*_, _%_, _^_, _≤_}

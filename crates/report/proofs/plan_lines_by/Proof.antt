@@ -1,4 +1,4 @@
--- The plan's line, the labels' lines and the faults' lines, one behind the other.
+-- The plan's line, the labels' lines and the faults' lines, one after the other.
 use borrow.Author.Needs.{needs}
 use native.Mathlib.Omega.{arith}
 use mathlib.Core.List.{List}

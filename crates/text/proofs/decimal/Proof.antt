@@ -1,4 +1,4 @@
--- The number that the whole says is the number that the digits from i on say behind v, which i digits made.
+-- The number that the whole says is the number that the digits from i on say after v, which i digits made.
 use mathlib.Core.Path.{_≡_, sym, _∙_}
 use mathlib.Core.Logic.{inl, inr, ⊎-elim}
 use Prim.Native.Nat.{_-_, _^_, _<_, _≤_}

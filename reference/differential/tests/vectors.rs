@@ -1,0 +1,240 @@
+//! The stored cases: the file is what the second implementation would write
+//! today, and there are cases of every kind. That the library meets them is
+//! tried by the program `vectors` (`rt check vectors`), which must see every
+//! case that is not as it should be; the gate has built it before these tests.
+
+use differential::outcomes::Outcomes;
+use second::circuits::LISTING;
+use second::netlist::{self, TEXT_LIMIT};
+use second::plan::CAP_LIMIT;
+use second::vectors::{cases, path, stored, Case};
+use std::collections::BTreeSet;
+use std::io::Write;
+use std::path::PathBuf;
+use std::process::{Command, Stdio};
+use std::sync::LazyLock;
+
+/// The lengths that a list can have.
+const LENGTHS: [usize; 11] = [2, 4, 8, 16, 32, 64, 128, 256, 512, 1_024, 2_048];
+
+static CASES: LazyLock<Vec<Case>> = LazyLock::new(cases);
+
+#[test]
+fn stored_cases_are_those_of_today() {
+    let file = std::fs::read(path()).expect("the stored cases");
+    assert!(
+        file == stored(),
+        "run `cargo run --release --offline --locked --bin vectors`"
+    );
+    assert!(file.len() < 740_000, "{} bytes", file.len());
+    // What the program `vectors` has room for.
+    for case in CASES.iter() {
+        assert!(case.list.len() <= 2_056 && case.due.len() <= 25_000);
+        assert!(case.first.len() <= 4 && case.second.len() <= 4);
+        let room = if case.call == "report" { 1_100 } else { 2_056 };
+        assert!(case.room <= room && case.working <= 4_700);
+    }
+}
+
+/// What the program `vectors` says of a file of cases.
+fn said(file: Vec<u8>) -> String {
+    let program = PathBuf::from(env!("CARGO_MANIFEST_DIR")).join("../../target/bin/vectors");
+    let mut child = Command::new(&program)
+        .stdin(Stdio::piped())
+        .stdout(Stdio::piped())
+        .spawn()
+        .unwrap_or_else(|error| panic!("{}: {error}", program.display()));
+    let mut input = child.stdin.take().expect("standard input");
+    input.write_all(&file).expect("cases taken");
+    drop(input);
+    let output = child.wait_with_output().expect("its end");
+    assert!(output.status.success());
+    String::from_utf8(output.stdout).expect("plain text")
+}
+
+/// The program says of each of these cases, spoilt, that it differs.
+fn assert_all_differ(
+    least: usize,
+    chosen: impl Fn(&Case) -> bool,
+    spoil: impl Fn(usize, &mut Case),
+) {
+    let mut spoilt: Vec<Case> = CASES.iter().filter(|case| chosen(case)).cloned().collect();
+    let count = spoilt.len();
+    assert!(count >= least, "{count} cases");
+    for (at, case) in spoilt.iter_mut().enumerate() {
+        spoil(at, case);
+    }
+    let file = spoilt.iter().flat_map(Case::bytes).collect();
+    assert_eq!(said(file), format!("{count} cases, {count} differ\n"));
+}
+
+#[test]
+fn spoilt_cases_differ() {
+    // A byte of what is due, each time another one.
+    assert_all_differ(
+        1_500,
+        |case| !case.due.is_empty(),
+        |at, case| {
+            let place = at * 7_919 % case.due.len();
+            case.due[place] ^= 1;
+        },
+    );
+    // A byte less and a byte more.
+    assert_all_differ(
+        1_500,
+        |case| !case.due.is_empty(),
+        |_, case| case.due.truncate(case.due.len() - 1),
+    );
+    assert_all_differ(1_500, |_| true, |_, case| case.due.push(b'\n'));
+    // The sums of readings, each of a pair's three in turn.
+    let reads = |case: &Case| ["reading", "pair"].contains(&case.call) && case.number == 0;
+    assert_all_differ(100, reads, |at, case| {
+        let place = at % case.list.len();
+        case.list[place] += 1;
+    });
+    // Where a field starts.
+    let fields = |case: &Case| case.call == "field";
+    assert_all_differ(40, fields, |_, case| case.second[0] += 1);
+}
+
+#[test]
+fn cut_files_differ() {
+    let (last, before) = CASES.split_last().expect("cases");
+    let whole: Vec<u8> = before.iter().flat_map(Case::bytes).collect();
+    let count = CASES.len();
+    for length in [1, 53, 54, last.bytes().len() - 1] {
+        let mut file = whole.clone();
+        file.extend(&last.bytes()[..length]);
+        assert_eq!(said(file), format!("{count} cases, 1 differ\n"), "{length}");
+    }
+}
+
+/// Each listed outcome of the call came at least so often, and no other came.
+fn assert_seen(call: &str, least: &[(u32, usize)]) {
+    let mut outcomes = Outcomes::default();
+    for case in CASES.iter().filter(|case| case.call == call) {
+        outcomes.note(case.number);
+    }
+    outcomes.assert_seen(least);
+}
+
+#[test]
+fn stored_cases_are_of_every_call_and_outcome() {
+    let lists: [(&str, &[(u32, usize)]); 5] = [
+        ("coefficient", &[(0, 40), (9, 10), (10, 20), (12, 8)]),
+        ("spectrum", &[(0, 25), (8, 5), (9, 10), (10, 20)]),
+        ("rows", &[(0, 20), (8, 5), (9, 10), (10, 20), (11, 20)]),
+        ("stuck", &[(0, 25), (8, 5), (9, 10), (10, 20), (12, 30)]),
+        (
+            "opened",
+            &[(0, 20), (8, 5), (9, 10), (10, 10), (11, 20), (12, 30)],
+        ),
+    ];
+    for (call, least) in lists {
+        assert_seen(call, least);
+    }
+    let of_text: Vec<(u32, usize)> = (2..=7).map(|number| (number, 4)).collect();
+    let texts: [(&str, &[(u32, usize)]); 4] = [
+        ("circuit", &[(0, 40), (8, 10), (12, 20)]),
+        ("plan", &[(0, 20), (8, 5), (13, 5), (14, 5)]),
+        ("reading", &[(0, 80), (12, 10)]),
+        ("pair", &[(0, 30), (12, 30)]),
+    ];
+    for (call, least) in texts {
+        assert_seen(call, &[&of_text, least].concat());
+    }
+    assert_seen("report", &[(0, 450), (8, 20)]);
+    assert_seen("field", &[(0, 40)]);
+}
+
+#[test]
+fn stored_lists_are_of_every_length() {
+    let mut all = BTreeSet::new();
+    for (call, longest) in [
+        ("coefficient", 2_048),
+        ("spectrum", 2_048),
+        ("rows", 2_048),
+        ("stuck", 1_024),
+        ("opened", 1_024),
+    ] {
+        let done = CASES.iter().filter(|case| case.number == 0);
+        let found: BTreeSet<usize> = done
+            .filter(|case| case.call == call)
+            .map(|case| case.list.len())
+            .collect();
+        // Of two inputs none can be opened lines but one.
+        let shortest = if call == "opened" { 4 } else { 2 };
+        for length in [2, 4, 8, 16, 32, 64, 128, 256, longest] {
+            let is_due = length >= shortest;
+            assert!(!is_due || found.contains(&length), "{call}: no {length}");
+        }
+        all.extend(found);
+    }
+    assert_eq!(all.into_iter().collect::<Vec<_>>(), LENGTHS);
+}
+
+#[test]
+fn stored_examples_come_first() {
+    let due = |at: usize| std::str::from_utf8(&CASES[at].due).expect("plain text");
+    for (at, start) in [
+        "answer,2,1\nleft,-99999999,-99999999\n",
+        "answer,2,1,0,0,0,0,0\n",
+        "refused,2,1\n",
+        "answer,2,1,0,0\n",
+        "answer,2,1\n",
+        "refused,7,9\n",
+        "refused,1,0\n",
+        "answer,0,0\nleft,128,0,0",
+    ]
+    .into_iter()
+    .enumerate()
+    {
+        assert!(due(at).starts_with(start), "{at}: {}", due(at));
+    }
+    let lengths = [5, 6].map(|at| CASES[at].text.len());
+    assert_eq!(lengths, [TEXT_LIMIT, TEXT_LIMIT + 1]);
+    assert!(due(12).starts_with("answer,3,1\n"), "N = 9");
+    assert!((17..22).all(|at| due(at).starts_with("answer,9,0")));
+    assert_eq!(due(22), "answer,0,0\nleft,1000,1000\n");
+    assert_eq!(due(24), "answer,10,0\nleft,-99999999,-99999999\n");
+}
+
+#[test]
+fn stored_reports_are_of_every_kind() {
+    let reports: Vec<&Case> = CASES.iter().filter(|case| case.call == "report").collect();
+    assert!(reports.iter().any(|case| case.text == LISTING.as_bytes()));
+    let mut outcomes = Outcomes::default();
+    let mut sizes = [0; CAP_LIMIT + 1];
+    let mut inputs = [0; 9];
+    let (mut many_faults, mut many_gates, mut negative, mut five_digits) = (0, 0, 0, 0);
+    for case in reports {
+        let report = std::str::from_utf8(&case.due).expect("plain text");
+        if let Some(refusal) = report.strip_prefix("refused,") {
+            let (number, _) = refusal.split_once(',').expect("a place");
+            outcomes.note(number.parse().expect("a number"));
+        }
+        let Some(plan) = report.strip_prefix("plan,") else {
+            continue;
+        };
+        outcomes.note(0);
+        sizes[usize::from(plan.as_bytes()[0] - b'0')] += 1;
+        let netlist = netlist::parse(&case.text).expect("a good circuit");
+        inputs[netlist.inputs] += 1;
+        many_faults += usize::from(netlist.faults.len() == 32);
+        many_gates += usize::from(netlist.gates.len() == 48);
+        for line in report.lines() {
+            let value = line.rsplit(',').next().expect("a field");
+            negative += usize::from(value.starts_with('-'));
+            five_digits += usize::from(value.len() == 5 && !value.starts_with('-'));
+        }
+    }
+    let mut least: Vec<(u32, usize)> = (2..=7).map(|number| (number, 10)).collect();
+    least.extend([(0, 200), (1, 1), (13, 20), (14, 30)]);
+    outcomes.assert_seen(&least);
+    assert!(sizes[1..].iter().all(|&count| count >= 20), "{sizes:?}");
+    assert!(inputs[1..].iter().all(|&count| count >= 20), "{inputs:?}");
+    assert!(many_faults >= 10, "32 faults: {many_faults}");
+    assert!(many_gates >= 10, "48 gates: {many_gates}");
+    assert!(negative >= 200, "negative coefficients: {negative}");
+    assert!(five_digits >= 20, "five digits: {five_digits}");
+}
