@@ -13,7 +13,8 @@
  *   WALSH_NO_SET_WITHIN_CAP may have used the working numbers.
  * - `out` may be longer than the result: what stands after the result stays as it was.
  * - No call keeps a pointer, allocates memory, reads or writes a file or a stream, or needs more than 64 KiB of stack. There is no state between
- *   calls, so calls may run at the same time wherever none writes what another is lent.
+ *   calls, so calls may run at the same time wherever none writes what another is lent. walsh_plan and walsh_report search, each anew;
+ *   docs/BENCHMARK.md has the longest search.
  *
  * The order of the refusals in a call's comment is the order of its tests: where several apply, the first is given. "1 to 7" is the text, line
  * by line.
@@ -41,7 +42,7 @@ extern "C" {
 #define WALSH_MAX_OUTPUTS 4
 #define WALSH_MAX_WEIGHT 15
 #define WALSH_MAX_FAULTS 32
-#define WALSH_MAX_STUCK 3          /* stuck lines of one fault, opened lines of one call */
+#define WALSH_MAX_STUCK 3          /* stuck lines of one fault, stuck inputs or opened lines of one call */
 #define WALSH_MAX_LABELS 4         /* labels of a plan, and the largest cap */
 #define WALSH_MAX_LIST 2048        /* numbers of a list; lists have 2, 4, 8 .. numbers */
 #define WALSH_MAX_ROW 1000         /* rows are -1,000 to 1,000 */
@@ -51,17 +52,17 @@ extern "C" {
 enum walsh_number {
     WALSH_DONE = 0,
     WALSH_TEXT_TOO_LONG = 1,
-    WALSH_MALFORMED_LINE = 2,        /* place: the line of the text, from 1; in 3 to 7 too */
+    WALSH_MALFORMED_LINE = 2,        /* place: the line of the text, from 1, in 3 to 7 too; malformed, missing or without its line end */
     WALSH_NUMBER_OUT_OF_RANGE = 3,   /* place: the line */
     WALSH_GATE_READS_AHEAD = 4,      /* place: the line; the gate reads its own or a later line */
-    WALSH_NO_SUCH_LINE = 5,          /* place: the line; an output or a fault names no line of the circuit */
+    WALSH_NO_SUCH_LINE = 5,          /* place: the line; an output or a fault names a line above the circuit's last (0 and 57 are 3) */
     WALSH_LINES_NOT_RISING = 6,      /* place: the line, a fault's */
     WALSH_BYTES_AFTER_TEXT = 7,      /* place: the line after the last that was due */
     WALSH_BUFFER_TOO_SHORT = 8,      /* `out` or `work` */
     WALSH_BAD_LENGTH = 9,            /* of a list: not 2, 4, 8 .. 2,048 */
     WALSH_ENTRY_OUT_OF_RANGE = 10,   /* place: the first index, from 0, of a row or coefficient out of range */
     WALSH_BAD_SUM = 11,              /* place: the first index, from 0, where a sum does not divide or gives a row out of range */
-    WALSH_ARGUMENT_OUT_OF_RANGE = 12,
+    WALSH_ARGUMENT_OUT_OF_RANGE = 12, /* each call's comment says which */
     WALSH_SILENT_FAULT = 13,         /* place: the first fault, from 1, that changes no row */
     WALSH_NO_SET_WITHIN_CAP = 14     /* no set of labels within the cap shows every fault */
 };
@@ -100,8 +101,8 @@ struct walsh_signature {
     uint32_t labels[WALSH_MAX_LABELS]; /* 0 past the size */
 };
 
-/* What walsh_report gives back: how long the report is. It has no place: a refusal of the text
-   stands in the report itself, and the number is WALSH_DONE. */
+/* What walsh_report gives back: how long the report is. It has no place: every refusal but 8
+   stands in the report itself, and the number is then WALSH_DONE too. */
 struct walsh_written {
     uint32_t number; /* WALSH_DONE or WALSH_BUFFER_TOO_SHORT */
     size_t bytes;    /* of the report */
@@ -154,12 +155,13 @@ struct walsh_reply walsh_circuit(const uint8_t *text, size_t text_length, uint32
    Refusals: 1 to 7, 12 (a mask of 2^N or above, or values outside the mask). */
 struct walsh_measured walsh_reading(const uint8_t *text, size_t text_length, uint32_t mask, uint32_t values);
 
-/* Reads the circuit sound and under a fault of the text, from 1; mask and values as in walsh_reading. The difference is exact too.
+/* Reads the circuit sound and under a fault of the text, from 1; mask and values as in walsh_reading: they say what is applied, and an input
+   that the fault holds shows its stuck value all the same. The difference is exact too.
    Refusals: 1 to 7, 12 (also fault 0 or a fault above the text's last). */
 struct walsh_comparison walsh_pair(const uint8_t *text, size_t text_length, uint32_t fault, uint32_t mask, uint32_t values);
 
 /* Finds field `number`, from 0, of any text: the part between two commas or ends, or the empty part at the text's end where there is no such
-   field. It looks at commas only, and never refuses. */
+   field. It looks at commas only, line ends are bytes like any other, and it never refuses. */
 struct walsh_part walsh_field(const uint8_t *text, size_t text_length, size_t number);
 
 /* Calls on lists. A list of 2^n numbers belongs to n inputs. Bit i-1 of a row's index is the value of input i, and bit i-1 of a label names it. */
@@ -176,13 +178,15 @@ struct walsh_reply walsh_spectrum(const int32_t *rows, size_t rows_length, int32
    Refusals: 9, 10, 8, 11 (no rows in range have these coefficients). */
 struct walsh_reply walsh_rows(const int32_t *coefficients, size_t coefficients_length, int32_t *out, size_t out_length);
 
-/* Coefficients to the coefficients, as many, with one to three inputs stuck: rising inputs, from 1, and as many values 0 or 1.
+/* Coefficients to the coefficients, as many, with one to three inputs stuck: rising inputs, from 1, and as many values 0 or 1. Of rows these are
+   the coefficients of the faulted rows. A list that is that of no rows is not refused, and its result may have 8 times WALSH_MAX_COEFFICIENT.
    Refusals: 9, 12 (any other inputs or values), 10, 8. */
 struct walsh_reply walsh_stuck(const int32_t *coefficients, size_t coefficients_length, const uint32_t *inputs, size_t inputs_length,
                                const uint32_t *values, size_t values_length, int32_t *out, size_t out_length);
 
 /* An opened line is cut and driven from outside, as one more input. Coefficients of n inputs and k opened lines, which come last, to the 2^n
-   coefficients with those lines at the k values 0 or 1; values[0] is for line n+1. k is 1 to 3 and n at least 1.
+   coefficients with those lines at the k values 0 or 1; values[0] is for line n+1. k is 1 to 3 and n at least 1. Of rows these are the
+   coefficients of the faulted rows.
    Refusals: 9, 12 (any other k or values), 10, 8, 11 (a sum does not divide by 2^k). */
 struct walsh_reply walsh_opened(const int32_t *coefficients, size_t coefficients_length, const uint32_t *values, size_t values_length,
                                 int32_t *out, size_t out_length);

@@ -1,7 +1,7 @@
 /*
  * Plans the circuit text in the file that is named, or on standard input. Standard output gets the report, byte for byte what `signature` writes,
  * and standard error one line on the plan. Unlike `signature`, which ends with status 0 after a refusal too, it tells a script by its exit status:
- * 0 there is a plan, 1 the text is refused, 2 the text could not be read or the report not written.
+ * 0 there is a plan, 1 the text is refused, 2 the text could not be read or the report not written, or more than one file is named.
  *
  *     rt staticlib capi
  *     cc -Iinclude samples/plan.c target/staticlib/libcapi.a -o target/plan
@@ -26,7 +26,7 @@ static const char *reason(uint32_t number)
     case WALSH_NO_SUCH_LINE: return "an output or a fault names no line of the circuit: line";
     case WALSH_LINES_NOT_RISING: return "the lines of a fault do not rise: line";
     case WALSH_BYTES_AFTER_TEXT: return "bytes after the last line: line";
-    case WALSH_SILENT_FAULT: return "no fixture can see it: fault";
+    case WALSH_SILENT_FAULT: return "no fixture can see this fault:";
     case WALSH_NO_SET_WITHIN_CAP: return "no set of labels within the cap shows every fault";
     default: return "refused";
     }
@@ -62,8 +62,13 @@ int main(int argc, char **argv)
     if (file != stdin)
         fclose(file);
 
+    /* Each of the two searches for the plan: who needs only one of them calls only that one. */
     plan = walsh_plan(text, length, work, WALSH_WORKING_NUMBERS);
     written = walsh_report(text, length, report, sizeof report, work, WALSH_WORKING_NUMBERS);
+    if (written.number != WALSH_DONE) {
+        fputs("the lent buffers are too short\n", stderr);
+        return 2;
+    }
     if (fwrite(report, 1, written.bytes, stdout) != written.bytes || fflush(stdout) != 0)
         return failed("standard output");
 

@@ -72,15 +72,15 @@ fn call_on_a_text(word: &[u8]) -> Call {
     Call::Unknown
 }
 
-fn call_of(parted: bool, word: &[u8]) -> Call {
-    if parted {
+fn call_of(separated: bool, word: &[u8]) -> Call {
+    if separated {
         return call_on_a_list(word);
     }
     Call::Unknown
 }
 
 // Whether a comma stands before each number, and a line end after the last.
-fn is_parted(head: &[u8]) -> bool
+fn is_separated(head: &[u8]) -> bool
     requires { ⌜ 54 ≤ length (now head) ⌝ }
 {
     let mut i: usize = 11;
@@ -106,9 +106,9 @@ pub fn read(head: &[u8]) -> CaseHead
     requires { ⌜ 54 ≤ length (now head) ⌝ }
     ensures { λ r. ⌜ (r .text ≤ 10000000000) × (r .list ≤ 10000000000) × (r .first ≤ 10000000000) × (r .second ≤ 10000000000) × (r .due ≤ 10000000000) ⌝ }
 {
-    let parted = is_parted(head);
+    let separated = is_separated(head);
     CaseHead {
-        call: call_of(parted, &head[..11]),
+        call: call_of(separated, &head[..11]),
         text: size_at(head, 0),
         list: size_at(head, 1),
         first: size_at(head, 2),

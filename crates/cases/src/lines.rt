@@ -43,8 +43,8 @@ fn put(out: &mut [u8], at: usize, word: &[u8], numbers: &[i32]) -> usize
     requires { ⌜ at + (length (now word) + 12 * length (now numbers) + 1) ≤ length (now out) ⌝ }
     ensures { λ r. ⌜ r ≤ at + (length (now (word .entry)) + 12 * length (now (numbers .entry)) + 1) ⌝ }
 {
-    let behind = writing::put(out, at, word);
-    let end = put_numbers(out, behind, numbers);
+    let word_end = writing::put(out, at, word);
+    let end = put_numbers(out, word_end, numbers);
     writing::put(out, end, b"\n")
 }
 

@@ -95,7 +95,7 @@ rising-set (l ∷ ls) (y ∷ ys) r s sub =
   where
     -- an entry of ys is not l where y is l or stands after it
     rest : ((z : ℕ) → List·Memᴰ z ys → earlier y z ≡ true) → (earlier y l ≡ true → ⊥) → (z : ℕ) → List·Memᴰ z ys → List·Memᴰ z ls
-    rest q behind z m = ⊎-elim (λ e. absurd (behind (subst (λ (x : ℕ). earlier y x ≡ true) e (q z m)))) (λ k. k) (List·Memᴰ·cases-cons (sub z (List·Memᴰ·tail m)))
+    rest q not-earlier z m = ⊎-elim (λ e. absurd (not-earlier (subst (λ (x : ℕ). earlier y x ≡ true) e (q z m)))) (λ k. k) (List·Memᴰ·cases-cons (sub z (List·Memᴰ·tail m)))
 
     go : ((z : ℕ) → List·Memᴰ z ls → earlier l z ≡ true) × (rising ls ≡ true) → ((z : ℕ) → List·Memᴰ z ys → earlier y z ≡ true) × (rising ys ≡ true)
         → (t : Bool) → eqb y l ≡ t
@@ -109,9 +109,9 @@ rising-set (l ∷ ls) (y ∷ ys) r s sub =
         (subst (λ (x : ℕ). List·Memᴰ (x ∷ ys) (map (λ xs. l ∷ xs) (setsOf (length ys) ls))) (sym same) (Memᴰ·map (λ (xs : List ℕ). l ∷ xs) m))
     go p q false e here later =
         let first : List·Memᴰ y ls = ⊎-elim (λ k. absurd (eqb-false y l e k)) (λ k. k) (List·Memᴰ·cases-cons (sub y (List·Memᴰ·head refl))) in
-        let behind : earlier y l ≡ true → ⊥ = λ k. earlier-self l (earlier-trans l y l (p .0 y first) k) in
+        let not-earlier : earlier y l ≡ true → ⊥ = λ k. earlier-self l (earlier-trans l y l (p .0 y first) k) in
         Memᴰ·append-right (map (λ xs. l ∷ xs) (setsOf (length ys) ls))
-        (later (λ z m. ⊎-elim (λ k. subst (λ (x : ℕ). List·Memᴰ x ls) (sym k) first) (λ k. rest (q .0) behind z k) (List·Memᴰ·cases-cons m)))
+        (later (λ z m. ⊎-elim (λ k. subst (λ (x : ℕ). List·Memᴰ x ls) (sym k) first) (λ k. rest (q .0) not-earlier z k) (List·Memᴰ·cases-cons m)))
 
 -- Of two sets of a rising list, the one that comes first precedes the other.
 

@@ -28,7 +28,7 @@ texts-answered text =
     record {
       too-long = one-exactly text;
       line = line-exactly text;
-      bytes-behind = seven-exactly text;
+      bytes-follow = seven-exactly text;
       no-other = λ number place e. ⊎-elim inl (λ line. inr (line .number-low, line .number-high)) (text-refused text number place e);
       accept = texts-exactly text;
       none-applies = none-exactly text;

@@ -90,7 +90,7 @@ module _ (B : ℕ) (l : List ℤ) (x : ℕ) where
 
 -- the screen, and what is tested after it
 module _ (B : ℕ) (right : Bool) (Right : Type 0) (means : (right ≡ true) ↔ Right) (l : List ℤ) (room due : ℕ) (rest : Answer) (next : ℕ → ℕ → Type 0)
-    (behind : screenOf (minus B) (pos B) right l room due ≡ Done → next (answerNumber rest) (answerPlace rest)) where
+    (later-tests : screenOf (minus B) (pos B) right l room due ≡ Done → next (answerNumber rest) (answerPlace rest)) where
   abbrev first : ℕ
   first = firstOutside (minus B) (pos B) l
 
@@ -127,7 +127,7 @@ module _ (B : ℕ) (right : Bool) (Right : Type 0) (means : (right ≡ true) ↔
                     no-bad (outsideAt (minus B) (pos B) l) (length l) (BeyondAt B l) (λ x h. beyond-there B l x) (λ x h. beyond-back B l x) c,
                     refused-if (ltb room due) (λ d. N false false false d) (λ d. P false false false d)
                         (λ d. ((ltb-true room due d, refl), refl))
-                        (λ d. (λ p f. absurd (omega (arith, f .0, ltb-false room due d)), behind (rw (a, b, c, d)))),
+                        (λ d. (λ p f. absurd (omega (arith, f .0, ltb-false room due d)), later-tests (rw (a, b, c, d)))),
                   )),
             )),
       ))
@@ -201,7 +201,7 @@ stuck-tested c inputs values room =
 
 pub rows-tested : (c : List ℤ) (room : ℕ) → RowsTests c room (answerNumber (rowsAnswer c room)) (answerPlace (rowsAnswer c room))
 unfolding rowsAnswer coefficientOf unfitAt firstUnfit dividedAnswer
-rows-tested c room = screen-tested 2048000 true Unit always c room (length c) (dividedAnswer (length c) (minus 1000) (pos 1000) (spectrumOf c)) _ behind
+rows-tested c room = screen-tested 2048000 true Unit always c room (length c) (dividedAnswer (length c) (minus 1000) (pos 1000) (spectrumOf c)) _ later-tests
   where
     sums : List ℤ
     sums = spectrumOf c
@@ -212,9 +212,9 @@ rows-tested c room = screen-tested 2048000 true Unit always c room (length c) (d
     at : (x : ℕ) → x < length c → nth sums x ≡ coefficientOf c x
     at x h = nth-spectrum c (length c) x refl h
 
-    behind : screenOf (minus 2048000) (pos 2048000) true c room (length c) ≡ Done
+    later-tests : screenOf (minus 2048000) (pos 2048000) true c room (length c) ≡ Done
         → RefusedIf 11 (FirstOf (length c) (NoRowAt c)) NoRefusal (answerNumber (dividedAnswer (length c) (minus 1000) (pos 1000) sums)) (answerPlace (dividedAnswer (length c) (minus 1000) (pos 1000) sums))
-    behind e =
+    later-tests e =
         refused-if (ltb (firstUnfit (length c) (minus 1000) (pos 1000) sums) (length sums))
         (λ t. answerNumber (refuseIf t 11 (firstUnfit (length c) (minus 1000) (pos 1000) sums) Done))
         (λ t. answerPlace (refuseIf t 11 (firstUnfit (length c) (minus 1000) (pos 1000) sums) Done))
@@ -235,14 +235,14 @@ rows-tested c room = screen-tested 2048000 true Unit always c room (length c) (d
 
 pub opened-tested : (c : List ℤ) (values : List ℕ) (room : ℕ) → OpenedTests c values room (answerNumber (openedAnswer c values room)) (answerPlace (openedAnswer c values room))
 unfolding openedAnswer undividedAnswer firstUndivided
-opened-tested c values room = screen-tested 2048000 (openedRight (inputsOf (length c)) values) _ (opened-arguments (inputsOf (length c)) values) c room due (undividedAnswer c values) _ behind
+opened-tested c values room = screen-tested 2048000 (openedRight (inputsOf (length c)) values) _ (opened-arguments (inputsOf (length c)) values) c room due (undividedAnswer c values) _ later-tests
   where
     due : ℕ
     due = 2 ^ keptInputs c values
 
-    behind : screenOf (minus 2048000) (pos 2048000) (openedRight (inputsOf (length c)) values) c room due ≡ Done
+    later-tests : screenOf (minus 2048000) (pos 2048000) (openedRight (inputsOf (length c)) values) c room due ≡ Done
         → RefusedIf 11 (FirstOf due (UndividedAt c values)) NoRefusal (answerNumber (undividedAnswer c values)) (answerPlace (undividedAnswer c values))
-    behind e =
+    later-tests e =
         refused-if (ltb (firstUndivided c values) due) (λ t. answerNumber (refuseIf t 11 (firstUndivided c values) Done)) (λ t. answerPlace (refuseIf t 11 (firstUndivided c values) Done))
         (λ t. (first-bad (undividedAt c values) due (UndividedAt c values) (λ x h. undivided-means c values x) (λ x h. means-undivided c values x) t, refl))
         (λ t. (no-bad (undividedAt c values) due (UndividedAt c values) (λ x h. undivided-means c values x) (λ x h. means-undivided c values x) t, (refl, refl)))

@@ -37,7 +37,7 @@ use Rattle.demands.specs.Refusals.{CoefficientTests, SpectrumTests, Rows
 pub record TextsAnswered (text : List ℕ) : Type 0 where
   pub too-long : (parseOf text ≡ rejected 1 0) ↔ (16384 < length text)
   pub line : (number place : ℕ) → ((parseOf text ≡ rejected number place) × (2 ≤ number) × (number ≤ 6)) ↔ LineFails text number place
-  pub bytes-behind : (place : ℕ) → (parseOf text ≡ rejected 7 place) ↔ BytesFollow text place
+  pub bytes-follow : (place : ℕ) → (parseOf text ≡ rejected 7 place) ↔ BytesFollow text place
   pub no-other : (number place : ℕ) → parseOf text ≡ rejected number place → ((number ≡ 1) × (place ≡ 0)) ⊎ ((2 ≤ number) × (number ≤ 7))
   pub accept : (n : Netlist) → (parseOf text ≡ accepted n) ↔ (WellFormed n × (text ≡ textOf n))
   -- "A text is accepted exactly when none of 1 to 7 applies."

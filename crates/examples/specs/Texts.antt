@@ -1,4 +1,4 @@
--- The circuit texts of document 01's examples, a string for each line, and that of the old tool's failure: 129 ones in 256 rows.
+-- The circuit texts of document 01's examples, a string for each line, and that of 129 ones in 256 rows, which two decimals take for half of them.
 use Prim.Native.Nat.{ℕ}
 use Prim.Native.String.{String}
 use mathlib.Core.List.{List, [], _∷_, _++_}

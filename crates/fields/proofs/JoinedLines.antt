@@ -1,8 +1,8 @@
 -- A line is its fields joined by commas, and a number in it the decimal of its value:
---   valuesFrom, values-small       the values of the fields from k on, all below 10,000
---   line-joined, line-ended        a line of a word and numbers is that word and those numbers as they are written
---   behind-joined, behind-ended    the same where a second word stands before the numbers
---   line-form                      exactly those lines have that form
+--   valuesFrom, values-small             the values of the fields from k on, all below 10,000
+--   line-joined, line-ended              a line of a word and numbers is that word and those numbers as they are written
+--   two-words-joined, two-words-ended    the same where a second word stands before the numbers
+--   line-form                            exactly those lines have that form
 use mathlib.Core.Path.{_≡_, refl, sym, ap, ap₂, _∙_, subst}
 use mathlib.Core.Bool.{true, _&&_}
 use mathlib.Core.List.{List, [], _∷_, _++_, append-assoc, map}
@@ -18,7 +18,7 @@ use Rattle.text.specs.declared.Number.{Number}
 use Rattle.text.specs.declared.Number.the-variants.{Value, Bad}
 use Rattle.integer.proofs.Bools.{both, clash}
 use Rattle.text.proofs.Decimals.{number-le}
-use Rattle.text.proofs.Parts.{only-field, first-parted}
+use Rattle.text.proofs.Parts.{only-field, first-separated}
 use Rattle.text.proofs.Words.{same-equal}
 use Rattle.writing.specs.Writing.{Small, integerOf, numbersOf, lineOf}
 use Rattle.writing.proofs.LineFields.{Lacks, no-numbers, numbers-cons}
@@ -70,11 +70,11 @@ module _ (l : List ℕ) where
 abbrev Joined : ℕ → List ℕ → Type 0
 Joined k l = fieldCount l ≡ suc k → numbersFrom l 1 k ≡ true → l ≡ fieldOf l 0 ++ numbersOf (map pos (valuesFrom l 1 k))
 
-behind-first : (k : ℕ) (l : List ℕ) → Joined k (after comma l) → fieldCount l ≡ suc (suc k) → numbersFrom l 2 k ≡ true
+two-words-first : (k : ℕ) (l : List ℕ) → Joined k (after comma l) → fieldCount l ≡ suc (suc k) → numbersFrom l 2 k ≡ true
     → l ≡ fieldOf l 0 ++ (comma ∷ (fieldOf l 1 ++ numbersOf (map pos (valuesFrom l 2 k))))
 unfolding fieldOf
-behind-first k l joined c e =
-    let p = first-parted l (omega (arith, c)) in
+two-words-first k l joined c e =
+    let p = first-separated l (omega (arith, c)) in
     p .1
     ∙ ap (λ (m : List ℕ). fieldOf l 0 ++ (comma ∷ m)) (joined (omega (arith, c, p .0)) (sym (numbers-after l 1 k) ∙ e))
     ∙ ap (λ (ns : List ℕ). fieldOf l 0 ++ (comma ∷ (fieldOf l 1 ++ numbersOf (map pos ns)))) (sym (values-after l 1 k))
@@ -84,7 +84,7 @@ unfolding numbersFrom
 joined zero l c e = only-field l c ∙ sym (no-numbers (fieldOf l 0))
 joined (suc k) l c e =
     let b = both (isNumber (numberOf (fieldOf l 1))) (numbersFrom l 2 k) e in
-    behind-first k l (joined k (after comma l)) c (b .1)
+    two-words-first k l (joined k (after comma l)) c (b .1)
     ∙ ap (λ (m : List ℕ). fieldOf l 0 ++ m) (ap (λ (f : List ℕ). comma ∷ (f ++ numbersOf (map pos (valuesFrom l 2 k)))) (field-written l 1 (b .0)) ∙ sym (numbers-cons (pos (valueAt l 1)) (map pos (valuesFrom l 2 k))))
 
 -- with the byte that ends it
@@ -111,15 +111,15 @@ module _ (l word : List ℕ) (k : ℕ) where
     line-ended = ended l word (valuesFrom l 1 k) line-joined
 
   module _ (e : isLine l word 2 (suc (suc k)) ≡ true) where
-    pub behind-joined : l ≡ (word ++ (comma ∷ fieldOf l 1)) ++ numbersOf (map pos (valuesFrom l 2 k))
-    behind-joined =
+    pub two-words-joined : l ≡ (word ++ (comma ∷ fieldOf l 1)) ++ numbersOf (map pos (valuesFrom l 2 k))
+    two-words-joined =
         let f = formed 2 (suc (suc k)) (omega arith) e in
-        behind-first k l (joined k (after comma l)) (f .0) (f .2)
+        two-words-first k l (joined k (after comma l)) (f .0) (f .2)
         ∙ ap (λ (w : List ℕ). w ++ (comma ∷ (fieldOf l 1 ++ numbersOf (map pos (valuesFrom l 2 k))))) (f .1)
         ∙ sym (append-assoc word (comma ∷ fieldOf l 1) (numbersOf (map pos (valuesFrom l 2 k))))
 
-    pub behind-ended : l ++ (lineEnd ∷ []) ≡ lineOf (word ++ (comma ∷ fieldOf l 1)) (map pos (valuesFrom l 2 k))
-    behind-ended = ended l (word ++ (comma ∷ fieldOf l 1)) (valuesFrom l 2 k) behind-joined
+    pub two-words-ended : l ++ (lineEnd ∷ []) ≡ lineOf (word ++ (comma ∷ fieldOf l 1)) (map pos (valuesFrom l 2 k))
+    two-words-ended = ended l (word ++ (comma ∷ fieldOf l 1)) (valuesFrom l 2 k) two-words-joined
 
   pub line-form : Lacks comma word → (isLine l word 1 (suc k) ≡ true) ↔ ((ns : List ℕ) × Small ns × (length ns ≡ k) × (l ≡ word ++ numbersOf (map pos ns)))
   line-form lacks = (

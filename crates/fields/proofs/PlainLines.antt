@@ -1,6 +1,6 @@
 -- Lines that are written as a word and numbers, and what the tests on fields show:
 --   plain-line, plain-count, plain-value, plain-numbers    a word and numbers: it has that form, and its numbers are read
---   value-behind, line-behind                              the same after a first word and a comma
+--   value-after-word, line-after-word                      the same after a first word and a comma
 --   range, in-range, fits-range                            a number within its range, both ways
 --   absent                                                 a field that is not there counts as 0
 use mathlib.Core.Path.{_≡_, refl, sym, ap, _∙_}
@@ -72,17 +72,17 @@ in-range v low high a b = rw (le-leb low v a, le-leb v high b)
 
 -- after a first word and a comma
 module _ (word rest : List ℕ) (lacks : Lacks comma word) where
-  pub value-behind : (k : ℕ) → valueAt (word ++ (comma ∷ rest)) (suc k) ≡ valueAt rest k
+  pub value-after-word : (k : ℕ) → valueAt (word ++ (comma ∷ rest)) (suc k) ≡ valueAt rest k
   unfolding valueAt
-  value-behind k = rw (next-field word rest lacks k)
+  value-after-word k = rw (next-field word rest lacks k)
 
-  numbers-behind : (k count : ℕ) → numbersFrom (word ++ (comma ∷ rest)) (suc k) count ≡ numbersFrom rest k count
+  numbers-after-word : (k count : ℕ) → numbersFrom (word ++ (comma ∷ rest)) (suc k) count ≡ numbersFrom rest k count
   unfolding numbersFrom
-  numbers-behind k zero = refl
-  numbers-behind k (suc count) = rw (next-field word rest lacks k, numbers-behind (suc k) count)
+  numbers-after-word k zero = refl
+  numbers-after-word k (suc count) = rw (next-field word rest lacks k, numbers-after-word (suc k) count)
 
-  pub line-behind : (from fields : ℕ) → fieldCount rest ≡ fields → numbersFrom rest from (fields - from) ≡ true → isLine (word ++ (comma ∷ rest)) word (suc from) (suc fields) ≡ true
+  pub line-after-word : (from fields : ℕ) → fieldCount rest ≡ fields → numbersFrom rest from (fields - from) ≡ true → isLine (word ++ (comma ∷ rest)) word (suc from) (suc fields) ≡ true
   unfolding isLine
-  line-behind from fields c e =
+  line-after-word from fields c e =
       let z : suc fields - suc from ≡ fields - from = omega arith in
-      rw (eq-eqb (fieldCount (word ++ (comma ∷ rest))) (suc fields) (next-count word rest lacks ∙ ap suc c), first-field word rest lacks, same-self word, z, numbers-behind from (fields - from)) e
+      rw (eq-eqb (fieldCount (word ++ (comma ∷ rest))) (suc fields) (next-count word rest lacks ∙ ap suc c), first-field word rest lacks, same-self word, z, numbers-after-word from (fields - from)) e

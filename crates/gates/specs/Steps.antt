@@ -1,4 +1,4 @@
--- What private functions leave of one column: 256 values for each of 58 lines, one value a row.
+-- What private functions and leaves leave of one column: 256 values for each of 58 lines, one value a row.
 --   shownAt              what a line shows on a row
 --   seenAs               a value seen through a fault, by what is shown of 1 and of 0
 --   Columned             one column made by a rule, and everything else as it was

@@ -28,7 +28,7 @@ use Rattle.statements.specs.declared.Output.{Output}
 use Rattle.kinds.proofs.KindWords.{KindWritten, kind-written, kind-only}
 use Rattle.sections.proofs.LinesWritten.{Told}
 use Rattle.fields.proofs.Chains.{unless-passed}
-use Rattle.fields.proofs.JoinedLines.{line-ended, behind-ended}
+use Rattle.fields.proofs.JoinedLines.{line-ended, two-words-ended}
 use Rattle.fields.proofs.PlainLines.{plain-value}
 use Rattle.netlist.specs.CircuitText.{headLine, gateLine, outputLine}
 use Rattle.netlist.specs.Circuits.{Netlist}
@@ -138,7 +138,7 @@ pub gate-only : (own : ℕ) (l : List ℕ) → gateRefusal own l ≡ 0 → l ++ 
 unfolding gateRefusal isGate gateOf gateLine
 gate-only own l e =
     let f = both (isLine l gateWord 2 4) (isKind (fieldOf l 1)) (unless-passed (isLine l gateWord 2 4 && isKind (fieldOf l 1)) 2 _ (lit≤ tt) e .0) in
-    behind-ended l gateWord 2 (f .0) ∙ ap (λ (w : List ℕ). lineOf (gateWord ++ (comma ∷ w)) (pos (valueAt l 2) ∷ pos (valueAt l 3) ∷ [])) (kind-only (fieldOf l 1) (f .1))
+    two-words-ended l gateWord 2 (f .0) ∙ ap (λ (w : List ℕ). lineOf (gateWord ++ (comma ∷ w)) (pos (valueAt l 2) ∷ pos (valueAt l 3) ∷ [])) (kind-only (fieldOf l 1) (f .1))
 
 -- ---- outputs
 

@@ -27,7 +27,7 @@ use Rattle.statements.proofs.LineNumbers.{head-number, gate-number, output-numb
 use Rattle.sections.proofs.LinesRead.{lines-further, lines-passed, lines-stopped}
 use Rattle.netlist.specs.Circuits.{Netlist}
 use Rattle.netlist.specs.Parsing.{gatesIn, outputsIn, faultsIn, Parse, accepted, rejected, onRead, endOf, bodyOf, parseOf, nthGateRefusal, nthOutputRefusal}
-use Rattle.netlist.specs.Places.{textHead, linesDue, dueRefusal, refusalAt, LineFails, DuePass, behindDue, BytesFollow, NoneApplies}
+use Rattle.netlist.specs.Places.{textHead, linesDue, dueRefusal, refusalAt, LineFails, DuePass, afterDue, BytesFollow, NoneApplies}
 use Rattle.netlist.proofs.Acceptance.{head-fits}
 use Rattle.netlist.proofs.Assembling.{too-long}
 
@@ -106,12 +106,12 @@ module _ (text : List ℕ) (few : length text ≤ textBytes) where
 
       stage : (next : List A → List ℕ → Parse) → ((l : List A) (end : List ℕ) → end ≡ linesFrom (m + count) text → Passing text (m + count) → Means text (next l end))
           → Means text (onRead (linesOf refusal item count low rest []) next)
-      stage next behind = go (linesOf refusal item count low rest []) refl
+      stage next later-lines = go (linesOf refusal item count low rest []) refl
         where
           go : (r : Read A) → linesOf refusal item count low rest [] ≡ r → Means text (onRead r next)
           go (items l end) x =
               let p = lines-passed refusal item count low rest [] l end x in
-              behind l end (p .end-is ∙ ap (linesFrom count) rest-is ∙ lines-further m count text) (further count (omega arith) (p .passing))
+              later-lines l end (p .end-is ∙ ap (linesFrom count) rest-is ∙ lines-further m count text) (further count (omega arith) (p .passing))
           go (lineRefused number place) x =
               let s = lines-stopped refusal item number place count low rest [] x in
               let i : place - 1 ≡ m + s .lines = omega (arith, s .place-is) in
@@ -127,7 +127,7 @@ module _ (text : List ℕ) (few : length text ≤ textBytes) where
                 earlier-pass = λ k b. further (s .lines) (omega (arith, s .within)) (s .passing) k (omega (arith, i));
               })
 
-  ended : (gates : List Gate) (outputs : List Output) (faults : List Fault) (rest : List ℕ) → rest ≡ behindDue text → Passing text (linesDue h) → Means text (endOf h gates outputs faults rest)
+  ended : (gates : List Gate) (outputs : List Output) (faults : List Fault) (rest : List ℕ) → rest ≡ afterDue text → Passing text (linesDue h) → Means text (endOf h gates outputs faults rest)
   unfolding endOf
   ended gates outputs faults [] e p = record { pass = record { few = few; each = p }; all = sym e }
   ended gates outputs faults (x ∷ rest) e p =

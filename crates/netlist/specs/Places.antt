@@ -49,16 +49,16 @@ pub record DuePass (text : List ℕ) : Type 0 where
   pub each : (k : ℕ) → k < linesDue (textHead text) → refusalAt text k ≡ 0
 
 -- the text after them
-abbrev pub behindDue : List ℕ → List ℕ
-behindDue text = linesFrom (linesDue (textHead text)) text
+abbrev pub afterDue : List ℕ → List ℕ
+afterDue text = linesFrom (linesDue (textHead text)) text
 
 -- 7
 pub record BytesFollow (text : List ℕ) (place : ℕ) : Type 0 where
   pub pass : DuePass text
-  pub bytes : 0 < length (behindDue text)
+  pub bytes : 0 < length (afterDue text)
   pub place-is : place ≡ linesDue (textHead text) + 1
 
 -- none of 1 to 7 applies
 pub record NoneApplies (text : List ℕ) : Type 0 where
   pub pass : DuePass text
-  pub all : behindDue text ≡ []
+  pub all : afterDue text ≡ []

@@ -80,22 +80,22 @@ module _ (n : Netlist) (right : WellFormed n) (labels : List ℕ) (low : Below (
           let k = ap length (first .1) ∙ length-placed 0 A out (omega (arith, head, wide)) in
           omega (arith, head, k, first .0, small, wide)
 
-      module _ {behind : ℕ} {two : List ℕ} (second : (behind ≡ at + length B) × (two ≡ placed at B one)) where
+      module _ {labels-end : ℕ} {two : List ℕ} (second : (labels-end ≡ at + length B) × (two ≡ placed at B one)) where
         pair : two ≡ placed 0 (A ++ B) out
         pair = second .1 ∙ placed-more 0 A B out one at (first .1) (first .0) (omega (arith, head, label-part, small, wide))
 
-        pair-end : behind ≡ 0 + length (A ++ B)
+        pair-end : labels-end ≡ 0 + length (A ++ B)
         pair-end = omega (arith, first .0, second .0, length-append A B)
 
         pair-length : length (A ++ B) ≤ 75
         pair-length = omega (arith, head, label-part, small, length-append A B)
 
-        pub faults-room : behind + 640 ≤ length two
+        pub faults-room : labels-end + 640 ≤ length two
         faults-room =
             let k = ap length pair ∙ length-placed 0 (A ++ B) out (omega (arith, pair-length, wide)) in
             omega (arith, pair-length, pair-end, k, wide)
 
-        pub plan-written : {end : ℕ} {three : List ℕ} → (end ≡ behind + length C) × (three ≡ placed behind C two)
+        pub plan-written : {end : ℕ} {three : List ℕ} → (end ≡ labels-end + length C) × (three ≡ placed labels-end C two)
             → (end ≡ length (planLines (soundRows n) (faultedRows n) labels)) × (three ≡ placed 0 (planLines (soundRows n) (faultedRows n) labels) out)
         unfolding planLines
         plan-written third =

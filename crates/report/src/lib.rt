@@ -40,8 +40,8 @@ fn plan_lines_by(
     circuit::fault_spectrum(c, netlist::fault_at(c, 0), sound);
     let numbers = [labels.len() as i32];
     let at = writing::put_line(out, 0, b"plan", &numbers);
-    let behind = label_lines(out, at, labels, sound);
-    fault_lines(c, labels, sound, faulted, out, behind)
+    let labels_end = label_lines(out, at, labels, sound);
+    fault_lines(c, labels, sound, faulted, out, labels_end)
 }
 
 // All lines of a plan.

@@ -1,4 +1,4 @@
--- What private functions of the search answer, by masks: fault f is bit f.
+-- What private functions and the leaf `find` answer, by masks: fault f is bit f.
 use mathlib.Core.Bool.{Bool}
 use mathlib.Core.List.{List, [], _∷_, map}
 use mathlib.Core.Option.{Option, none, some}

@@ -25,11 +25,11 @@ line-taken refusal rest e =
 module _ {A : Type 0} (refusal : ℕ → List ℕ → ℕ) (item : List ℕ → A) (line : A → List ℕ) (none : A)
     (each : (j : ℕ) (l : List ℕ) → refusal j l ≡ 0 → l ++ (lineEnd ∷ []) ≡ line (item l)) where
   -- after those that were read
-  only-behind : (left place : ℕ) (rest : List ℕ) (read l : List A) (end : List ℕ) → linesOf refusal item left place rest read ≡ items l end
+  only-more : (left place : ℕ) (rest : List ℕ) (read l : List A) (end : List ℕ) → linesOf refusal item left place rest read ≡ items l end
       → (m : List A) × (l ≡ read ++ m) × (length m ≡ left) × (rest ≡ eachLine line none m ++ end)
   unfolding linesOf eachLine gather
-  only-behind zero place rest read l end e = let k : read ≡ l = cc in let z : rest ≡ end = cc in ([], sym k ∙ sym (append-nil read), refl, z)
-  only-behind (suc left) place rest read l end e = go (eqb number 0) refl (only-behind left (suc place) (after lineEnd rest) (read ++ (item (before lineEnd rest) ∷ [])) l end) e
+  only-more zero place rest read l end e = let k : read ≡ l = cc in let z : rest ≡ end = cc in ([], sym k ∙ sym (append-nil read), refl, z)
+  only-more (suc left) place rest read l end e = go (eqb number 0) refl (only-more left (suc place) (after lineEnd rest) (read ++ (item (before lineEnd rest) ∷ [])) l end) e
     where
       number : ℕ
       number = lineRefusal (refusal (length read)) rest
@@ -55,5 +55,5 @@ module _ {A : Type 0} (refusal : ℕ → List ℕ → ℕ) (item : List ℕ → 
   pub lines-only : (left place : ℕ) (rest : List ℕ) (l : List A) (end : List ℕ) → linesOf refusal item left place rest [] ≡ items l end
       → (length l ≡ left) × (rest ≡ eachLine line none l ++ end)
   lines-only left place rest l end e =
-      let r = only-behind left place rest [] l end e in
+      let r = only-more left place rest [] l end e in
       (ap length (r .1) ∙ r .2, r .3 ∙ ap (λ (m : List A). eachLine line none m ++ end) (sym (r .1)))

@@ -50,14 +50,14 @@ module _ {A : Type 0} {bytes : ℕ} (refusal : ℕ → List ℕ → ℕ) (item :
   line-read left place text rest read x t = rw (told-has t rest, told-before t rest, t .passes, told-after t rest, t .says)
 
   -- after those that were read
-  lines-behind : (l read : List A) (place : ℕ) (rest : List ℕ) → ((j : ℕ) → j < length l → Told bytes (refusal (length read + j)) item (line (getD l j none)) (getD l j none))
+  more-lines : (l read : List A) (place : ℕ) (rest : List ℕ) → ((j : ℕ) → j < length l → Told bytes (refusal (length read + j)) item (line (getD l j none)) (getD l j none))
       → linesOf refusal item (length l) place (eachLine line none l ++ rest) read ≡ items (read ++ l) rest
   unfolding linesOf eachLine gather
-  lines-behind [] read place rest t = rw (append-nil read)
-  lines-behind (x ∷ l) read place rest t =
+  more-lines [] read place rest t = rw (append-nil read)
+  more-lines (x ∷ l) read place rest t =
       ap (λ (text : List ℕ). linesOf refusal item (suc (length l)) place text read) (ap (λ (text : List ℕ). text ++ rest) (each-cons line none x l) ∙ append-assoc (line x) (eachLine line none l) rest)
       ∙ line-read (length l) place (line x) (eachLine line none l ++ rest) read x (now (length read + 0) (add-zero (length read)) (t 0 (omega arith)))
-      ∙ lines-behind l (read ++ (x ∷ [])) (suc place) rest (λ j h. later j (t (suc j) (omega arith)))
+      ∙ more-lines l (read ++ (x ∷ [])) (suc place) rest (λ j h. later j (t (suc j) (omega arith)))
       ∙ ap (λ (all : List A). items all rest) (append-assoc read (x ∷ []) l)
     where
       now : (k : ℕ) → k ≡ length read → Told bytes (refusal k) item (line x) x → Told bytes (refusal (length read)) item (line x) x
@@ -71,7 +71,7 @@ module _ {A : Type 0} {bytes : ℕ} (refusal : ℕ → List ℕ → ℕ) (item :
 
   module _ (l : List A) (t : (j : ℕ) → j < length l → Told bytes (refusal j) item (line (getD l j none)) (getD l j none)) where
     pub lines-read : (place : ℕ) (rest : List ℕ) → linesOf refusal item (length l) place (eachLine line none l ++ rest) [] ≡ items l rest
-    lines-read place rest = lines-behind l [] place rest (λ j h. rw zero-add (t j h))
+    lines-read place rest = more-lines l [] place rest (λ j h. rw zero-add (t j h))
 
     pub lines-short : length (eachLine line none l) ≤ length l * bytes
     unfolding eachLine

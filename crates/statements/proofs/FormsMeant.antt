@@ -20,8 +20,8 @@ use Rattle.text.specs.Text.{comma, indexOf, fieldOf, fieldCount}
 use Rattle.writing.specs.Writing.{Small}
 use Rattle.writing.proofs.LineFields.{next-field, word-field}
 use Rattle.fields.specs.Fields.{inRange, fits, isLine, valueAt}
-use Rattle.fields.proofs.JoinedLines.{valuesFrom, values-small, line-joined, behind-joined, line-form}
-use Rattle.fields.proofs.PlainLines.{range, in-range, plain-count, plain-value, plain-numbers, plain-line, value-behind, line-behind}
+use Rattle.fields.proofs.JoinedLines.{valuesFrom, values-small, line-joined, two-words-joined, line-form}
+use Rattle.fields.proofs.PlainLines.{range, in-range, plain-count, plain-value, plain-numbers, plain-line, value-after-word, line-after-word}
 use Rattle.kinds.specs.Kinds.{kindWord, isKind, kindOf}
 use Rattle.kinds.specs.declared.Kind.{Kind}
 use Rattle.kinds.specs.declared.Kind.the-variants.{And, Or, Nand, Nor, Xor, Xnor, Not}
@@ -110,23 +110,23 @@ second-means Not b = (eqb-true b 0, eq-eqb b 0)
 
 module _ (kind : Kind) (a b : ℕ) (small : Small (a ∷ b ∷ [])) where
   -- from the kind on
-  abbrev behind-gate : List ℕ
-  behind-gate = lineFrom (kindWord kind) (a ∷ b ∷ [])
+  abbrev after-gate : List ℕ
+  after-gate = lineFrom (kindWord kind) (a ∷ b ∷ [])
 
   pub gate-kind : fieldOf (gateFrom kind a b) 1 ≡ kindWord kind
   unfolding indexOf
-  gate-kind = next-field gateWord behind-gate refl 0 ∙ word-field (kindWord kind) (map pos (a ∷ b ∷ [])) (kind-written kind .one-field)
+  gate-kind = next-field gateWord after-gate refl 0 ∙ word-field (kindWord kind) (map pos (a ∷ b ∷ [])) (kind-written kind .one-field)
 
   pub gate-value : (k : ℕ) → valueAt (gateFrom kind a b) (suc (suc k)) ≡ getD (a ∷ b ∷ []) k 0
   unfolding indexOf
-  gate-value k = value-behind gateWord behind-gate refl (suc k) ∙ plain-value (kindWord kind) (a ∷ b ∷ []) small (kind-written kind .one-field) k
+  gate-value k = value-after-word gateWord after-gate refl (suc k) ∙ plain-value (kindWord kind) (a ∷ b ∷ []) small (kind-written kind .one-field) k
 
   gate-formed : isGate (gateFrom kind a b) ≡ true
   unfolding isGate indexOf
   gate-formed =
       let one = kind-written kind .one-field in
       rw (
-        line-behind gateWord behind-gate refl 1 3 (plain-count (kindWord kind) (a ∷ b ∷ []) small one) (plain-numbers (kindWord kind) (a ∷ b ∷ []) small one),
+        line-after-word gateWord after-gate refl 1 3 (plain-count (kindWord kind) (a ∷ b ∷ []) small one) (plain-numbers (kindWord kind) (a ∷ b ∷ []) small one),
         gate-kind,
         kind-written kind .known,
       )
@@ -146,7 +146,7 @@ gate-joined l e =
       valueAt l 2,
       valueAt l 3,
       values-small l 2 2,
-      behind-joined l gateWord 2 (f .0) ∙ ap (λ (w : List ℕ). lineFrom (gateWord ++ (comma ∷ w)) (valueAt l 2 ∷ valueAt l 3 ∷ [])) (kind-only (fieldOf l 1) (f .1)),
+      two-words-joined l gateWord 2 (f .0) ∙ ap (λ (w : List ℕ). lineFrom (gateWord ++ (comma ∷ w)) (valueAt l 2 ∷ valueAt l 3 ∷ [])) (kind-only (fieldOf l 1) (f .1)),
     )
 
 pub gate-form : GateForm

@@ -4,7 +4,7 @@
 --   cut-before, cut-after, cut-has, cut-none
 --                    a scan from `at` that stops at e, the first b from there on: what it cuts off, what it leaves, whether there was a b
 --   field-part, field-within    field k is the part of the list that starts at its index
---   only-field, first-parted    a list is its only field, or its first field, a comma, and what stands after it
+--   only-field, first-separated    a list is its only field, or its first field, a comma, and what stands after it
 --   no-field         where there is no field k it is the empty part at the list's end
 --   span-within, span-field     the same for the two ends that `locate` hands back
 --   index-hit, index-miss, index-end, count-hit, count-miss, count-end, rest-next, rest-past, rest-here
@@ -198,9 +198,9 @@ module _ (l : List ℕ) where
       go (yes none) = sym (take-all (indexOf comma l) l none)
       go (no some) = absurd (omega (arith, e, count-suc l (lt-of-not-le some), some-field (after comma l)))
 
-  pub first-parted : 1 < fieldCount l → (fieldCount l ≡ suc (fieldCount (after comma l))) × (l ≡ fieldOf l 0 ++ (comma ∷ after comma l))
+  pub first-separated : 1 < fieldCount l → (fieldCount l ≡ suc (fieldCount (after comma l))) × (l ≡ fieldOf l 0 ++ (comma ∷ after comma l))
   unfolding fieldOf
-  first-parted h = go (decLe (length l) (indexOf comma l))
+  first-separated h = go (decLe (length l) (indexOf comma l))
     where
       go : Dec (length l ≤ indexOf comma l) → (fieldCount l ≡ suc (fieldCount (after comma l))) × (l ≡ before comma l ++ (comma ∷ after comma l))
       go (yes none) = absurd (omega (arith, h, one-count l none))

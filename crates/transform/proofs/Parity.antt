@@ -21,7 +21,7 @@ pub even-less-odd : (rows : List ℤ) (label : ℕ)
     → coefficientOf rows label ≡ sumTo (length rows) (ofParity 0 rows label) -ℤ sumTo (length rows) (ofParity 1 rows label)
 unfolding coefficientOf signedSum termOf
 even-less-odd rows label =
-    sum-ext n _ (λ x. even x +ℤ negℤ (odd x)) (λ x l. parted (sign label x) (nth rows x) (omega arith))
+    sum-ext n _ (λ x. even x +ℤ negℤ (odd x)) (λ x l. separated (sign label x) (nth rows x) (omega arith))
     ∙ sum-add n even (λ x. negℤ (odd x)) ∙ ap (λ (z : ℤ). sumTo n even +ℤ z) (sum-neg n odd)
   where
     n : ℕ
@@ -33,7 +33,7 @@ even-less-odd rows label =
     odd : ℕ → ℤ
     odd = ofParity 1 rows label
 
-    parted : (p : ℕ) (z : ℤ) → p < 2 → signed p z ≡ cond (eqb p 0) z (pos 0) +ℤ negℤ (cond (eqb p 1) z (pos 0))
-    parted zero z l = sym (+ℤ-idr z)
-    parted (suc zero) z l = sym (+ℤ-idl (negℤ z))
-    parted (suc (suc p)) z l = absurd (omega arith)
+    separated : (p : ℕ) (z : ℤ) → p < 2 → signed p z ≡ cond (eqb p 0) z (pos 0) +ℤ negℤ (cond (eqb p 1) z (pos 0))
+    separated zero z l = sym (+ℤ-idr z)
+    separated (suc zero) z l = sym (+ℤ-idl (negℤ z))
+    separated (suc (suc p)) z l = absurd (omega arith)

@@ -31,10 +31,10 @@ use Rattle.writing.proofs.Writings.{natural-written, line-long}
 abbrev pub Lacks : ℕ → List ℕ → Type 0
 Lacks b l = indexOf b l ≡ length l
 
-pub index-behind : (b : ℕ) (l rest : List ℕ) → Lacks b l → indexOf b (l ++ rest) ≡ length l + indexOf b rest
+pub index-after : (b : ℕ) (l rest : List ℕ) → Lacks b l → indexOf b (l ++ rest) ≡ length l + indexOf b rest
 unfolding indexOf
-index-behind b [] rest e = omega arith
-index-behind b (x ∷ l) rest e = by (eqb x b) (index-behind b l rest) e
+index-after b [] rest e = omega arith
+index-after b (x ∷ l) rest e = by (eqb x b) (index-after b l rest) e
   where
     by : (t : Bool) → (Lacks b l → indexOf b (l ++ rest) ≡ length l + indexOf b rest) → cond t zero (suc (indexOf b l)) ≡ suc (length l)
         → cond t zero (suc (indexOf b (l ++ rest))) ≡ suc (length l) + indexOf b rest
@@ -42,13 +42,13 @@ index-behind b (x ∷ l) rest e = by (eqb x b) (index-behind b l rest) e
     by false ih k = omega (arith, ih (omega arith))
 
 pub lacks-append : (b : ℕ) (l m : List ℕ) → Lacks b l → Lacks b m → Lacks b (l ++ m)
-lacks-append b l m e f = omega (arith, index-behind b l m e, length-append l m)
+lacks-append b l m e f = omega (arith, index-after b l m e, length-append l m)
 
 -- up to the first b and after it
 module _ (b : ℕ) (l rest : List ℕ) (lacks : Lacks b l) where
   index-first : indexOf b (l ++ (b ∷ rest)) ≡ length l
   unfolding indexOf
-  index-first = index-behind b l (b ∷ rest) lacks ∙ rw (eq-eqb b b refl) (omega arith)
+  index-first = index-after b l (b ∷ rest) lacks ∙ rw (eq-eqb b b refl) (omega arith)
 
   pub has-first : hasByte b (l ++ (b ∷ rest)) ≡ true
   has-first = lt-ltb (indexOf b (l ++ (b ∷ rest))) (length (l ++ (b ∷ rest))) (omega (arith, index-first, length-append l (b ∷ rest)))
@@ -109,10 +109,10 @@ module _ (word rest : List ℕ) (lacks : Lacks comma word) where
   unfolding fieldOf
   next-field k = ap (λ (l : List ℕ). fieldOf l k) (after-first comma word rest lacks)
 
-count-behind : (l rest : List ℕ) → Lacks comma l → fieldCount (l ++ rest) ≡ fieldCount rest
+count-after : (l rest : List ℕ) → Lacks comma l → fieldCount (l ++ rest) ≡ fieldCount rest
 unfolding indexOf fieldCount
-count-behind [] rest e = refl
-count-behind (x ∷ l) rest e = by (eqb x comma) (count-behind l rest) e
+count-after [] rest e = refl
+count-after (x ∷ l) rest e = by (eqb x comma) (count-after l rest) e
   where
     by : (t : Bool) → (Lacks comma l → fieldCount (l ++ rest) ≡ fieldCount rest) → cond t zero (suc (indexOf comma l)) ≡ suc (length l)
         → cond t (suc (fieldCount (l ++ rest))) (fieldCount (l ++ rest)) ≡ fieldCount rest
@@ -121,7 +121,7 @@ count-behind (x ∷ l) rest e = by (eqb x comma) (count-behind l rest) e
 
 pub next-count : (word rest : List ℕ) → Lacks comma word → fieldCount (word ++ (comma ∷ rest)) ≡ suc (fieldCount rest)
 unfolding fieldCount
-next-count word rest lacks = count-behind word (comma ∷ rest) lacks
+next-count word rest lacks = count-after word (comma ∷ rest) lacks
 
 pub numbers-cons : (z : ℤ) (numbers : List ℤ) → numbersOf (z ∷ numbers) ≡ comma ∷ (integerOf z ++ numbersOf numbers)
 unfolding numbersOf numberField
@@ -149,7 +149,7 @@ number-field word (z ∷ numbers) (suc k) lacks h =
 
 pub line-count : (word : List ℕ) (numbers : List ℤ) → Lacks comma word → fieldCount (word ++ numbersOf numbers) ≡ suc (length numbers)
 unfolding fieldCount numbersOf gather
-line-count word [] lacks = count-behind word [] lacks
+line-count word [] lacks = count-after word [] lacks
 line-count word (z ∷ numbers) lacks =
     rw (numbers-cons z numbers, next-count word (integerOf z ++ numbersOf numbers) lacks) (ap suc (line-count (integerOf z) numbers (lacks-comma z)))
 

@@ -121,12 +121,12 @@ digit-range : (x : ℕ) → (leb 48 x && leb x 57) ≡ true → (48 ≤ x) × (x
 digit-range x e = let r = both (leb 48 x) (leb x 57) e in (leb-true 48 x (r .0), leb-true x 57 (r .1))
 
 -- digits after those of v, which does not begin with 0
-behind : (v : ℕ) (l : List ℕ) → 1 ≤ v → digits l ≡ true → decimalOf v ++ l ≡ decimalOf (decimalFrom v l)
+digits-after : (v : ℕ) (l : List ℕ) → 1 ≤ v → digits l ≡ true → decimalOf v ++ l ≡ decimalOf (decimalFrom v l)
 unfolding digits decimalFrom
-behind v [] h e = append-nil (decimalOf v)
-behind v (x ∷ l) h e =
+digits-after v [] h e = append-nil (decimalOf v)
+digits-after v (x ∷ l) h e =
     let d = both (leb 48 x && leb x 57) (digits l) e in
-    sym (append-assoc (decimalOf v) (x ∷ []) l) ∙ ap (λ (m : List ℕ). m ++ l) (one-more v x h (d .0)) ∙ behind (v * 10 + (x - 48)) l (omega arith) (d .1)
+    sym (append-assoc (decimalOf v) (x ∷ []) l) ∙ ap (λ (m : List ℕ). m ++ l) (one-more v x h (d .0)) ∙ digits-after (v * 10 + (x - 48)) l (omega arith) (d .1)
   where
     one-more : (v x : ℕ) → 1 ≤ v → (leb 48 x && leb x 57) ≡ true → decimalOf v ++ (x ∷ []) ≡ decimalOf (v * 10 + (x - 48))
     one-more v x h e =
@@ -156,7 +156,7 @@ formed-only (x ∷ l) e =
     go (y ∷ l) f d (inl one) = absurd (omega (arith, eqb-true (suc (suc (length l))) 1 one))
     go (y ∷ l) f d (inr some) =
         let more = eqb-false x 48 (not-true (eqb x 48) some) in
-        ap (λ (m : List ℕ). m ++ (y ∷ l)) (is-one x f) ∙ behind (0 * 10 + (x - 48)) (y ∷ l) (omega (arith, digit-range x f .0, more)) d
+        ap (λ (m : List ℕ). m ++ (y ∷ l)) (is-one x f) ∙ digits-after (0 * 10 + (x - 48)) (y ∷ l) (omega (arith, digit-range x f .0, more)) d
 
 pub number-only : (l : List ℕ) (v : ℕ) → numberOf l ≡ Value v → l ≡ decimalOf v
 unfolding numberOf

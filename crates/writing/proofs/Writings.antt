@@ -350,16 +350,16 @@ module _ (at : ℕ) (word : List ℕ) (numbers : List ℤ) (out : List ℕ) (fit
   pub word-room : at + length word ≤ length out
   word-room = omega (arith, long, fits)
 
-  module _ (first : List ℕ) (behind : ℕ) (e : first ≡ placed at word out) (f : behind ≡ at + length word) where
-    pub numbers-room : behind + length (numbersOf numbers) ≤ length first
+  module _ (first : List ℕ) (word-end : ℕ) (e : first ≡ placed at word out) (f : word-end ≡ at + length word) where
+    pub numbers-room : word-end + length (numbersOf numbers) ≤ length first
     numbers-room = let k = ap length e ∙ length-placed at word out word-room in omega (arith, long, fits, k, f)
 
-    module _ (second : List ℕ) (end : ℕ) (g : second ≡ placed behind (numbersOf numbers) first) (k : end ≡ behind + length (numbersOf numbers)) where
+    module _ (second : List ℕ) (end : ℕ) (g : second ≡ placed word-end (numbersOf numbers) first) (k : end ≡ word-end + length (numbersOf numbers)) where
       two-long : length (word ++ numbersOf numbers) ≡ length word + length (numbersOf numbers)
       two-long = length-append word (numbersOf numbers)
 
       two : second ≡ placed at (word ++ numbersOf numbers) out
-      two = g ∙ placed-more at word (numbersOf numbers) out first behind e f (omega (arith, long, fits))
+      two = g ∙ placed-more at word (numbersOf numbers) out first word-end e f (omega (arith, long, fits))
 
       pub end-room : end < length second
       end-room =

@@ -82,8 +82,8 @@ pub fn put_line(out: &mut [u8], at: usize, word: &[u8], numbers: &[i32]) -> usiz
     ensures { λ r. ⌜ r ≡ at + length (lineOf (now (word .entry)) (now (numbers .entry))) ⌝ }
     ensures { λ _. ⌜ now (out .exit) ≡ placed at (lineOf (now (word .entry)) (now (numbers .entry))) (now (out .entry)) ⌝ }
 {
-    let behind = put(out, at, word);
-    let end = put_numbers(out, behind, numbers);
+    let word_end = put(out, at, word);
+    let end = put_numbers(out, word_end, numbers);
     out[end] = b'\n';
     end + 1
 }

@@ -1181,7 +1181,7 @@ fn fixed_inputs_are_stuck_inputs() {
 }
 
 #[test]
-fn one_more_fixed_input_parts_the_rows() {
+fn one_more_fixed_input_splits_the_rows() {
     // Twice a reading is the sum of those with one more input at 0 and at 1.
     let mut both = Both::new(35);
     let mut changed = 0;

@@ -105,12 +105,21 @@ fn edits() -> Names {
         .collect()
 }
 
-/// The crates by name.
-fn crates() -> Names {
+/// The crates by name, each with what it stands on.
+fn crates_with_others() -> BTreeMap<String, Names> {
     let list = read(&root().join("crates.txt"));
     let lines = list.lines().filter(|line| !line.starts_with('#'));
-    let names = lines.filter_map(|line| line.split_once(':'));
-    names.map(|(name, _)| name.trim().to_string()).collect()
+    lines
+        .filter_map(|line| line.split_once(':'))
+        .map(|(name, others)| {
+            let others = others.split_whitespace().map(str::to_string);
+            (name.trim().to_string(), others.collect())
+        })
+        .collect()
+}
+
+fn crates() -> Names {
+    crates_with_others().into_keys().collect()
 }
 
 /// What stands under `#[test]`.
@@ -448,13 +457,31 @@ fn assert_lists(listed: &BTreeSet<(String, String)>, room: &str) {
     assert!(others.is_empty(), "{room} not there: {others:?}");
 }
 
-/// The table of crates counts their functions and must-fail edits.
+/// The README counts what its first command proves, and the must-fail edits.
+#[test]
+fn the_readme_counts_crates_and_edits() {
+    let text = page("README.md");
+    let proved = 1 + crates_with_others()["signature"]
+        .intersection(&crates())
+        .count();
+    let edits = files_of("crates", "edit").len();
+    for said in [
+        format!("({proved} crates,"),
+        format!("each of some {edits} wrong changes"),
+    ] {
+        assert!(text.contains(&said), "not there: {said}");
+    }
+}
+
+/// The table of crates counts their functions and must-fail edits; that of the
+/// gate's seconds, with several crates a row, their edits.
 #[test]
 fn architecture_counts_functions_and_edits() {
     let rows = cells(&page(ARCHITECTURE));
     let mut counted = BTreeSet::new();
     let mut all = 0;
     let mut owner = String::new();
+    let mut timed = 0;
     // The line under the heads is a row too.
     for (head, cell) in rows.iter().filter(|(_, cell)| cell != "---") {
         let folder = format!("crates/{owner}");
@@ -476,11 +503,18 @@ fn architecture_counts_functions_and_edits() {
                 all += edits;
                 edits
             }
+            // Of the last row some cells are empty.
+            "edits" if !owner.is_empty() => {
+                let edits = files_of(&folder, "edit").len();
+                timed += edits;
+                edits
+            }
             _ => continue,
         };
         assert_eq!(cell, &due.to_string(), "{head} of {owner}");
     }
     assert_eq!(counted, crates());
+    assert_eq!(timed, all, "must-fail edits with their seconds, and all");
     let said = format!("with {all} must-fail edits;");
     assert!(page(ARCHITECTURE).contains(&said), "not there: {said}");
 }

@@ -5,8 +5,8 @@ use borrow.Author.Needs.{needs}
 use Rattle.cases.proofs.heads.read.Statement.{statement}
 use Rattle.cases.proofs.heads.read.Tie as tie
 
-is-parted-requires : tie.Need-is-parted-requires
-is-parted-requires c κs = search needs
+is-separated-requires : tie.Need-is-separated-requires
+is-separated-requires c κs = search needs
 
 slice-aggregate-call-of : tie.Need-slice-aggregate-call-of
 slice-aggregate-call-of c = sym (length-take-le 11 (c .before .before .before .args .head .now) (omega arith))
@@ -42,7 +42,7 @@ pub read-spec : {M : Type 1} → statement M
 read-spec =
     tie.close
     (tie.spec
-    is-parted-requires
+    is-separated-requires
     slice-aggregate-call-of
     call-of-requires
     size-at-requires

@@ -1,7 +1,7 @@
 use Prim.Native.Nat.{_≤_, _-_}
 use borrow.Author.Needs.{needs}
-use Rattle.cases.proofs.heads.is_parted.Statement.{statement}
-use Rattle.cases.proofs.heads.is_parted.Tie as tie
+use Rattle.cases.proofs.heads.is_separated.Statement.{statement}
+use Rattle.cases.proofs.heads.is_separated.Tie as tie
 
 abbrev Inv-loop : tie.InvT-loop
 Inv-loop head i₀ i = i ≤ 58
@@ -33,8 +33,8 @@ shared-slice-read-result c = search needs
 returns-2 : tie.Need-returns-2 Inv-loop μ-loop
 returns-2 c = search needs
 
-pub is-parted-spec : {M : Type 1} → statement M
-is-parted-spec =
+pub is-separated-spec : {M : Type 1} → statement M
+is-separated-spec =
     tie.close
     (tie.spec
     Inv-loop
