@@ -178,15 +178,16 @@ struct walsh_reply walsh_spectrum(const int32_t *rows, size_t rows_length, int32
    Refusals: 9, 10, 8, 11 (no rows in range have these coefficients). */
 struct walsh_reply walsh_rows(const int32_t *coefficients, size_t coefficients_length, int32_t *out, size_t out_length);
 
-/* Coefficients to the coefficients, as many, with one to three inputs stuck: rising inputs, from 1, and as many values 0 or 1. Of rows these are
-   the coefficients of the faulted rows. A list that is that of no rows is not refused, and its result may have 8 times WALSH_MAX_COEFFICIENT.
+/* Coefficients to the coefficients, as many, with one to three inputs stuck: rising inputs, from 1, and as many values 0 or 1. Where
+   the list is the spectrum of rows, the result is that of the faulted rows. No other list is refused for being none, and its result may have
+   numbers of 8 times WALSH_MAX_COEFFICIENT.
    Refusals: 9, 12 (any other inputs or values), 10, 8. */
 struct walsh_reply walsh_stuck(const int32_t *coefficients, size_t coefficients_length, const uint32_t *inputs, size_t inputs_length,
                                const uint32_t *values, size_t values_length, int32_t *out, size_t out_length);
 
 /* An opened line is cut and driven from outside, as one more input. Coefficients of n inputs and k opened lines, which come last, to the 2^n
-   coefficients with those lines at the k values 0 or 1; values[0] is for line n+1. k is 1 to 3 and n at least 1. Of rows these are the
-   coefficients of the faulted rows.
+   coefficients with those lines at the k values 0 or 1; values[0] is for line n+1. k is 1 to 3 and n at least 1. Where the list is the
+   spectrum of rows, the result is that of the faulted rows.
    Refusals: 9, 12 (any other k or values), 10, 8, 11 (a sum does not divide by 2^k). */
 struct walsh_reply walsh_opened(const int32_t *coefficients, size_t coefficients_length, const uint32_t *values, size_t values_length,
                                 int32_t *out, size_t out_length);
