@@ -55,7 +55,7 @@ enum walsh_number {
     WALSH_MALFORMED_LINE = 2,        /* place: the line of the text, from 1, in 3 to 7 too; malformed, missing or without its line end */
     WALSH_NUMBER_OUT_OF_RANGE = 3,   /* place: the line */
     WALSH_GATE_READS_AHEAD = 4,      /* place: the line; the gate reads its own or a later line */
-    WALSH_NO_SUCH_LINE = 5,          /* place: the line; an output or a fault names a line above the circuit's last (0 and 57 are 3) */
+    WALSH_NO_SUCH_LINE = 5,          /* place: the line; an output or a fault names a line above the circuit's last; outside 1 to 56 it is 3 */
     WALSH_LINES_NOT_RISING = 6,      /* place: the line, a fault's */
     WALSH_BYTES_AFTER_TEXT = 7,      /* place: the line after the last that was due */
     WALSH_BUFFER_TOO_SHORT = 8,      /* `out` or `work` */
@@ -179,8 +179,8 @@ struct walsh_reply walsh_spectrum(const int32_t *rows, size_t rows_length, int32
 struct walsh_reply walsh_rows(const int32_t *coefficients, size_t coefficients_length, int32_t *out, size_t out_length);
 
 /* Coefficients to the coefficients, as many, with one to three inputs stuck: rising inputs, from 1, and as many values 0 or 1. Where
-   the list is the spectrum of rows, the result is that of the faulted rows. No other list is refused for being none, and its result may have
-   numbers of 8 times WALSH_MAX_COEFFICIENT.
+   the list is the spectrum of rows, the result is that of the faulted rows. A list that is no spectrum of rows is not refused for that, and its
+   result may have numbers of 8 times WALSH_MAX_COEFFICIENT.
    Refusals: 9, 12 (any other inputs or values), 10, 8. */
 struct walsh_reply walsh_stuck(const int32_t *coefficients, size_t coefficients_length, const uint32_t *inputs, size_t inputs_length,
                                const uint32_t *values, size_t values_length, int32_t *out, size_t out_length);
