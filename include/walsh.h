@@ -1,7 +1,7 @@
 /*
  * The Walsh signature planner, for C99 and C++. Link target/staticlib/libcapi.a, which `rt staticlib capi` writes for Linux on x86-64; it
- * needs nothing but memcpy and memset of the C library. docs/FORMAT.md says what a circuit text is and what each refusal means; samples/plan.c is a
- * short program.
+ * needs nothing but memcpy and memset of the C library. docs/FORMAT.md says what the text of a circuit or of a table is and what each refusal means;
+ * samples/plan.c is a short program.
  *
  * For every call:
  *
@@ -17,7 +17,7 @@
  *   docs/BENCHMARK.md has the longest search.
  *
  * The order of the refusals in a call's comment is the order of its tests: where several apply, the first is given. "1 to 7" is the text, line
- * by line.
+ * by line, and so is "1 to 7 and 15", where tables are taken: 15 comes at line 2 of a table, after 2, and 4 never does.
  */
 #ifndef WALSH_H
 #define WALSH_H
@@ -32,13 +32,13 @@ extern "C" {
 /* What to lend. */
 #define WALSH_WORKING_NUMBERS 4608 /* working numbers of walsh_plan and walsh_report, at least */
 #define WALSH_REPORT_BYTES 1024    /* bytes of a report, at least: the longest fits */
-#define WALSH_CIRCUIT_NUMBERS 256  /* coefficients of the largest circuit */
+#define WALSH_CIRCUIT_NUMBERS 256  /* coefficients of the largest circuit or table */
 
 /* What is taken, at most. */
 #define WALSH_MAX_TEXT_BYTES 16384
 #define WALSH_MAX_INPUTS 8
 #define WALSH_MAX_GATES 48
-#define WALSH_MAX_LINES 56 /* the inputs and the gates */
+#define WALSH_MAX_LINES 56 /* the inputs and the gates; of a table the inputs alone are lines */
 #define WALSH_MAX_OUTPUTS 4
 #define WALSH_MAX_WEIGHT 15
 #define WALSH_MAX_FAULTS 32
@@ -52,10 +52,10 @@ extern "C" {
 enum walsh_number {
     WALSH_DONE = 0,
     WALSH_TEXT_TOO_LONG = 1,
-    WALSH_MALFORMED_LINE = 2,        /* place: the line of the text, from 1, in 3 to 7 too; malformed, missing or without its line end */
+    WALSH_MALFORMED_LINE = 2,        /* place: the line of the text, from 1, in 3 to 7 and 15 too; malformed, missing or without its line end */
     WALSH_NUMBER_OUT_OF_RANGE = 3,   /* place: the line */
     WALSH_GATE_READS_AHEAD = 4,      /* place: the line; the gate reads its own or a later line */
-    WALSH_NO_SUCH_LINE = 5,          /* place: the line; an output or a fault names a line above the circuit's last; outside 1 to 56 it is 3 */
+    WALSH_NO_SUCH_LINE = 5,          /* place: the line; an output or a fault names a line above the last (a table: above N); outside 1 to 56: 3 */
     WALSH_LINES_NOT_RISING = 6,      /* place: the line, a fault's */
     WALSH_BYTES_AFTER_TEXT = 7,      /* place: the line after the last that was due */
     WALSH_BUFFER_TOO_SHORT = 8,      /* `out` or `work` */
@@ -64,7 +64,8 @@ enum walsh_number {
     WALSH_BAD_SUM = 11,              /* place: the first index, from 0, where a sum does not divide or gives a row out of range */
     WALSH_ARGUMENT_OUT_OF_RANGE = 12, /* each call's comment says which */
     WALSH_SILENT_FAULT = 13,         /* place: the first fault, from 1, that changes no row */
-    WALSH_NO_SET_WITHIN_CAP = 14     /* no set of labels within the cap shows every fault */
+    WALSH_NO_SET_WITHIN_CAP = 14,    /* no set of labels within the cap shows every fault */
+    WALSH_BAD_MARK = 15              /* place: the line, 2; a mark of a table is not `0`, `1` or `-`; nothing is written, as with 1 to 7 */
 };
 
 /* The kinds of a reading. */
@@ -135,29 +136,33 @@ struct walsh_part {
     size_t length;
 };
 
-/* Calls on a circuit text. */
+/* Calls on a text. walsh_plan, walsh_report and walsh_circuit take circuits and tables. Of a table all rows and coefficients are doubled, in all
+   three: a row is 2 where its mark is `1`, 1 where it is `-` (a free row), 0 where it is `0`. walsh_reading and walsh_pair take circuits only: a
+   table is refused by 1 where it is too long, and else by 2 at line 1, whatever stands in its lines. */
 
-/* Plans the circuit: the first shortest set of labels, within the text's cap, that shows every fault. What the first WALSH_WORKING_NUMBERS
-   of `work` hold after a plan, 13 or 14 may be anything; later ones stay. Refusals: 1 to 7, 8 (fewer working numbers), 13, 14. */
+/* Plans the circuit or table: the first shortest set of labels, within the text's cap, that shows every fault. What the first
+   WALSH_WORKING_NUMBERS of `work` hold after a plan, 13 or 14 may be anything; later ones stay.
+   Refusals: 1 to 7 and 15, 8 (fewer working numbers), 13, 14. */
 struct walsh_signature walsh_plan(const uint8_t *text, size_t text_length, uint32_t *work, size_t work_length);
 
-/* Writes the report on the text to `out`: the plan with its coefficients, or the line `refused,NUMBER,PLACE`. `work` is as in walsh_plan.
+/* Writes the report on the text to `out`: the plan with its coefficients, a table's doubled, or the line `refused,NUMBER,PLACE`. `work` is as
+   in walsh_plan.
    Refusal: 8 before all else (fewer than WALSH_REPORT_BYTES bytes or WALSH_WORKING_NUMBERS working numbers). */
 struct walsh_written walsh_report(const uint8_t *text, size_t text_length, uint8_t *out, size_t out_length, uint32_t *work, size_t work_length);
 
-/* Writes the 2^N coefficients of the circuit, by label: sound for fault 0, else under that fault of the text, from 1. N, the number of inputs, is
-   field 1 of an accepted text (walsh_field).
-   Refusals: 1 to 7, 12 (a fault above the text's last), 8. */
+/* Writes the 2^N coefficients of the circuit or table, by label, a table's doubled: sound for fault 0, else under that fault of the text, from 1.
+   N, the number of inputs, is field 1 of an accepted text (walsh_field).
+   Refusals: 1 to 7 and 15, 12 (a fault above the text's last), 8. */
 struct walsh_reply walsh_circuit(const uint8_t *text, size_t text_length, uint32_t fault, int32_t *out, size_t out_length);
 
 /* Reads the sound circuit: the mean of the rows that have the given values at the fixed inputs, an exact fraction. Bit i-1 of the mask
    fixes input i at that bit of the values; mask 0 fixes none.
-   Refusals: 1 to 7, 12 (a mask of 2^N or above, or values outside the mask). */
+   Refusals: 1 to 7 (2 at line 1 for a table), 12 (a mask of 2^N or above, or values outside the mask). */
 struct walsh_measured walsh_reading(const uint8_t *text, size_t text_length, uint32_t mask, uint32_t values);
 
 /* Reads the circuit sound and under a fault of the text, from 1; mask and values as in walsh_reading: they say what is applied, and an input
    that the fault holds shows its stuck value all the same. The difference is exact too.
-   Refusals: 1 to 7, 12 (also fault 0 or a fault above the text's last). */
+   Refusals: 1 to 7 (2 at line 1 for a table), 12 (also fault 0 or a fault above the text's last). */
 struct walsh_comparison walsh_pair(const uint8_t *text, size_t text_length, uint32_t fault, uint32_t mask, uint32_t values);
 
 /* Finds field `number`, from 0, of any text: the part between two commas or ends, or the empty part at the text's end where there is no such

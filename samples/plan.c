@@ -1,7 +1,8 @@
 /*
- * Plans the circuit text in the file that is named, or on standard input. Standard output gets the report, byte for byte what `signature` writes,
- * and standard error one line on the plan. Unlike `signature`, which ends with status 0 after a refusal too, it tells a script by its exit status:
- * 0 there is a plan, 1 the text is refused, 2 the text could not be read or the report not written, or more than one file is named.
+ * Plans the text, a circuit or a table, in the file that is named, or on standard input. Standard output gets the report, byte for byte what
+ * `signature` writes, and standard error one line on the plan. Unlike `signature`, which ends with status 0 after a refusal too, it tells a script
+ * by its exit status: 0 there is a plan, 1 the text is refused, 2 the text could not be read or the report not written, or more than one file is
+ * named.
  *
  *     rt staticlib capi
  *     cc -Iinclude samples/plan.c target/staticlib/libcapi.a -o target/plan
@@ -23,11 +24,12 @@ static const char *reason(uint32_t number)
     case WALSH_MALFORMED_LINE: return "missing or malformed: line";
     case WALSH_NUMBER_OUT_OF_RANGE: return "a number out of range: line";
     case WALSH_GATE_READS_AHEAD: return "a gate reads its own or a later line: line";
-    case WALSH_NO_SUCH_LINE: return "an output or a fault names no line of the circuit: line";
+    case WALSH_NO_SUCH_LINE: return "an output or a fault names a line above the last: line";
     case WALSH_LINES_NOT_RISING: return "the lines of a fault do not rise: line";
     case WALSH_BYTES_AFTER_TEXT: return "bytes after the last line: line";
     case WALSH_SILENT_FAULT: return "no fixture can see this fault:";
     case WALSH_NO_SET_WITHIN_CAP: return "no set of labels within the cap shows every fault";
+    case WALSH_BAD_MARK: return "a mark other than 0, 1 and -: line";
     default: return "refused";
     }
 }

@@ -1,7 +1,8 @@
 /*
  * Every function of include/walsh.h, done and refused, each answer field by field. tests/run compiles it as C99 and as C++ and holds what it prints
- * to tests/calls.expected, which was worked out from document 01 by hand and not taken from the library. The comments say where answers come from;
- * "paper" is document 01. Places where a result is lent hold MARK before each call, so a number too many or too few shows.
+ * to tests/calls.expected, which was worked out by hand from document 01, for tables from note 1 of document 02, and not taken from the library. The
+ * comments say where answers come from; "paper" is document 01. Places where a result is lent hold MARK before each call, so a number too many or
+ * too few shows.
  */
 #include <stdio.h>
 #include <string.h>
@@ -41,6 +42,18 @@ static struct walsh_part (*const field)(const uint8_t *, size_t, size_t) = walsh
     "circuit,8,7,1,1,1\ngate,and,1,2\ngate,and,3,9\ngate,and,4,10\ngate,and,5,11\ngate,and,6,12\ngate,and,7,13\ngate,or,8,14\n" \
     "output,15,1\nfault,14,0\n"
 
+/* A table of two inputs, one of them stuck; MARKS stands for its four rows. The doubled rows of 01-1 are 0, 2, 1, 2; with input 1 at 0 they are
+   0, 0, 1, 1, with input 2 at 1 they are 1, 2, 1, 2. */
+#define TABLE_OF(MARKS) "table,2,2,1\n" MARKS "\n" "fault,1,0\n" "fault,2,1\n"
+#define TABLE TABLE_OF("01-1")
+/* Source document 004, figure 2: the ones of figure 1 below but for rows 14 and 15, which are free. Input 1 stuck. */
+#define FREE_ROWS "table,4,1,1\n" "00000101111000--\n" "fault,1,1\n"
+/* Ones on both rows, whatever holds the input. */
+#define SILENT_INPUT "table,1,1,1\n" "11\n" "fault,1,0\n"
+/* x1 xor x3, where x2 is always x1; an input stuck at 0. The sums are 8, 0, 0, 0, 0, -4, -4, 0; under the faults 8, 0, 0, 0, -4, 0, -4, 0, then
+   8, 0, 0, 0, -4, -4, 0, 0, then 8, -4, -4, 0, 0, 0, 0, 0: no label shows all three, 1 and 4 together do. CAP is a digit. */
+#define TWINS(CAP) "table,3,3," CAP "\n" "0--11--0\n" "fault,1,0\n" "fault,2,0\n" "fault,3,0\n"
+
 static int32_t out[2 * WALSH_MAX_LIST];
 static int32_t list[2 * WALSH_MAX_LIST];
 static uint32_t work[WALSH_WORKING_NUMBERS + 1];
@@ -66,6 +79,7 @@ static const char *name(uint32_t number)
     case WALSH_ARGUMENT_OUT_OF_RANGE: return "argument out of range";
     case WALSH_SILENT_FAULT: return "silent fault";
     case WALSH_NO_SET_WITHIN_CAP: return "no set within cap";
+    case WALSH_BAD_MARK: return "bad mark";
     default: return "unknown";
     }
 }
@@ -451,6 +465,87 @@ static void pairs(void)
     put_comparison("pair, no text", pair(NO_TEXT, 1, 0, 0));
 }
 
+/* The calls that take tables, doubled, and the two that do not. */
+static void tables(void)
+{
+    put_reply("table, sound", circuit(TEXT(TABLE), 0, out, 5), 5);
+    put_reply("table, input 1 at 0", circuit(TEXT(TABLE), 1, out, 5), 5);
+    put_reply("table, input 2 at 1", circuit(TEXT(TABLE), 2, out, 5), 5);
+    put_reply("table, fault 3 of 2", circuit(TEXT(TABLE), 3, out, 5), 1);
+    /* 12 comes before 8. */
+    put_reply("table, fault 3 and no room", circuit(TEXT(TABLE), 3, NO_LIST), 1);
+    put_reply("table, a number short", circuit(TEXT(TABLE), 0, out, 3), 1);
+    /* Twice the figure's 6, -1, 0, -1, 0, 3, 2, -1, -2, -3, 0, 1, -4, 1, -2, 1. */
+    put_reply("table, figure 2", circuit(TEXT(FREE_ROWS), 0, out, 17), 17);
+}
+
+/* 1 to 7 and 15 in a table. */
+static void table_texts(void)
+{
+    put_refusal("marks, one too few", TABLE_OF("01-"));
+    put_refusal("marks, one too many", TABLE_OF("01-11"));
+    put_refusal("marks, none", TABLE_OF(""));
+    put_refusal("marks, no line end", "table,2,2,1\n" "01-1");
+    put_refusal("marks, no line", "table,2,2,1\n");
+    /* 2 comes before 15. */
+    put_refusal("marks, another and one too few", TABLE_OF("01x"));
+    put_refusal("marks, carriage return after", TABLE_OF("01-1\r"));
+    put_refusal("marks, carriage return among", TABLE_OF("01-\r"));
+    put_refusal("marks, another", TABLE_OF("01x1"));
+    put_refusal("marks, comma", TABLE_OF("0,11"));
+    put_refusal("table, three fields", "table,2,2\n" "01-1\n");
+    put_refusal("table, another word", "tables,2,2,1\n" "01-1\n");
+    put_refusal("table, nine inputs", "table,9,2,1\n" "01-1\n");
+    put_refusal("table, value 2", TABLE_OF("01-1\nfault,1,0\nfault,1,2"));
+    put_refusal("table, fault of no input", TABLE_OF("01-1\nfault,3,0"));
+    put_refusal("table, fault of line 57", TABLE_OF("01-1\nfault,57,0"));
+    put_refusal("table, lines not rising", TABLE_OF("01-1\nfault,2,0,1,0"));
+    put_refusal("table, a line more", TABLE "\n");
+    put_refusal("table, a fault too few", "table,2,2,1\n" "01-1\n" "fault,1,0\n");
+}
+
+static void table_plans(void)
+{
+    size_t all = WALSH_WORKING_NUMBERS, i, n = 0;
+
+    put_signature("plan, table", plan(TEXT(TABLE), work, all));
+    put_signature("plan, silent input", plan(TEXT(SILENT_INPUT), work, all));
+    put_signature("plan, twins", plan(TEXT(TWINS("1")), work, all));
+    put_signature("plan, twins with cap 2", plan(TEXT(TWINS("2")), work, all));
+    put_signature("plan, table and a working number short", plan(TEXT(TABLE), work, all - 1));
+    for (i = 0; i < COUNT(work); i++)
+        work[i] = MARK;
+    put_signature("plan, another mark", plan(TEXT(TABLE_OF("0,11")), work, all));
+    /* The text comes before 8. */
+    put_signature("plan, another mark and no working numbers", plan(TEXT(TABLE_OF("0,11")), NO_LIST));
+    put_written("report, another mark", report(TEXT(TABLE_OF("0,11")), bytes, sizeof bytes, work, all));
+    for (i = 0; i < COUNT(work); i++)
+        n += work[i] != MARK;
+    printf("working numbers used: %zu\n", n);
+    put_written("report, table", report(TEXT(TABLE), bytes, sizeof bytes, work, all));
+    put_written("report, silent input", report(TEXT(SILENT_INPUT), bytes, sizeof bytes, work, all));
+    put_written("report, twins", report(TEXT(TWINS("1")), bytes, sizeof bytes, work, all));
+    put_written("report, another mark and a byte short", report(TEXT(TABLE_OF("0,11")), bytes, sizeof bytes - 1, work, all));
+}
+
+static void tables_unread(void)
+{
+    /* For these the word of line 1 is wrong, and that goes before all that is wrong later, and before the arguments. */
+    put_measured("reading, table", reading(TEXT(TABLE), 0, 0));
+    put_measured("reading, another mark", reading(TEXT(TABLE_OF("0,11")), 0, 0));
+    put_measured("reading, table and mask 8", reading(TEXT(TABLE), 8, 0));
+    put_comparison("pair, table", pair(TEXT(TABLE), 1, 0, 0));
+    put_comparison("pair, another mark", pair(TEXT(TABLE_OF("0,11")), 1, 0, 0));
+    put_comparison("pair, table and fault 3", pair(TEXT(TABLE), 3, 0, 0));
+    memset(long_text, '0', sizeof long_text);
+    memcpy(long_text, TABLE, strlen(TABLE));
+    put_reply("table, longest", circuit(long_text, WALSH_MAX_TEXT_BYTES, 0, out, COUNT(out)), 1);
+    put_measured("reading, longest table", reading(long_text, WALSH_MAX_TEXT_BYTES, 0, 0));
+    put_reply("table, longer", circuit(long_text, WALSH_MAX_TEXT_BYTES + 1, 0, out, COUNT(out)), 1);
+    put_measured("reading, longer table", reading(long_text, WALSH_MAX_TEXT_BYTES + 1, 0, 0));
+    put_comparison("pair, longer table", pair(long_text, WALSH_MAX_TEXT_BYTES + 1, 1, 0, 0));
+}
+
 static void fields(void)
 {
     put_part("field 0", field(TEXT("circuit,3,48"), 0));
@@ -461,6 +556,9 @@ static void fields(void)
     put_part("field 1 at the end", field(TEXT("ab,"), 1));
     put_part("field 0 of no text", field(NO_TEXT, 0));
     put_part("field 9 of no text", field(NO_TEXT, 9));
+    /* Where the number of inputs stands in both texts. */
+    put_part("field 1 of the listing", field(TEXT(LISTING), 1));
+    put_part("field 1 of a table", field(TEXT(TABLE), 1));
 }
 
 int main(void)
@@ -478,6 +576,10 @@ int main(void)
     reports();
     readings();
     pairs();
+    tables();
+    table_texts();
+    table_plans();
+    tables_unread();
     fields();
     return 0;
 }

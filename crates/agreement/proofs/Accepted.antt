@@ -1,8 +1,9 @@
 -- Fault k of an accepted text:
 --   named-fault-right                it is right for the circuit
---   spectrum-is, answer-is     what the circuit call writes and answers for it, from the circuit
---   room-answer, room-enough   a call on a list that passes the tests before 8 asks for room only, as the circuit call does
-use mathlib.Core.Path.{_≡_}
+--   spectrum-is, answer-is           what the circuit call writes and answers for it, from the problem
+--   circuit-spectrum-is, circuit-answer-is    the same from the circuit
+--   room-answer, room-enough         a call on a list that passes the tests before 8 asks for room only, as the circuit call does
+use mathlib.Core.Path.{_≡_, ap, _∙_}
 use mathlib.Core.Bool.{Bool, true}
 use mathlib.Core.List.{List}
 use Prim.Native.Nat.{ℕ, zero, suc, _^_, _≤_, _<_}
@@ -16,6 +17,11 @@ use Rattle.netlist.specs.Parsing.{accepted, parseOf}
 use Rattle.sections.specs.FaultLines.{FaultRight}
 use Rattle.netlist.specs.WellFormed.{WellFormed, topOf}
 use Rattle.simulation.specs.Rows.{rowsOf}
+use Rattle.devices.specs.Describing.{described, descriptionOf}
+use Rattle.devices.specs.Devices.{circuitProblem}
+use Rattle.devices.specs.Problems.{Problem, problemFrom, rowsAt}
+use Rattle.devices.proofs.ProblemRows.{fault-count, circuit-rows}
+use Rattle.devices.proofs.TextKinds.{circuit-described}
 use Rattle.screen.specs.Answers.{minus, inputsOf, screenOf}
 use Rattle.transform.specs.Spectrum.{spectrumOf}
 use Rattle.screen.specs.declared.Answer.the-variants.{Done}
@@ -26,14 +32,23 @@ pub named-fault-right : (n : Netlist) (k : ℕ) → WellFormed n → 1 ≤ k →
 named-fault-right n zero w low high = absurd (omega arith)
 named-fault-right n (suc k) w low high = w .faults-right k (omega arith)
 
-module _ (text : List ℕ) (n : Netlist) (parsed : parseOf text ≡ accepted n) (k : ℕ) where
-  pub spectrum-is : circuitSpectrum text k ≡ spectrumOf (rowsOf n (faultAt n k))
+module _ (text : List ℕ) (p : Problem) (is : descriptionOf text ≡ described p) (k : ℕ) where
+  pub spectrum-is : circuitSpectrum text k ≡ spectrumOf (rowsAt p k)
   unfolding circuitSpectrum faultSpectrum
-  spectrum-is = rw parsed
+  spectrum-is = rw is
 
-  pub answer-is : (room : ℕ) → k ≤ length (n .faults) → circuitAnswer text k room ≡ roomAnswer (n .inputs) room
+  pub answer-is : (room : ℕ) → k ≤ length (p .faulted) → circuitAnswer text k room ≡ roomAnswer (p .inputs) room
   unfolding circuitAnswer faultAnswer
-  answer-is room h = rw (parsed, le-ltb (length (n .faults)) k h)
+  answer-is room h = rw (is, le-ltb (length (p .faulted)) k h)
+
+module _ (text : List ℕ) (n : Netlist) (parsed : parseOf text ≡ accepted n) (k : ℕ) (named : k ≤ length (n .faults)) where
+  pub circuit-spectrum-is : circuitSpectrum text k ≡ spectrumOf (rowsOf n (faultAt n k))
+  circuit-spectrum-is = spectrum-is text (circuitProblem n) (circuit-described text n parsed) k ∙ ap spectrumOf (circuit-rows n k named)
+
+  pub circuit-answer-is : (room : ℕ) → circuitAnswer text k room ≡ roomAnswer (n .inputs) room
+  unfolding circuitProblem problemFrom
+  circuit-answer-is room =
+      answer-is text (circuitProblem n) (circuit-described text n parsed) k room (let q = fault-count (n .inputs) (rowsOf n) (n .faults) (n .cap) in omega (arith, q, named))
 
 pub room-enough : (inputs room : ℕ) → 2 ^ inputs ≤ room → roomAnswer inputs room ≡ Done
 unfolding roomAnswer

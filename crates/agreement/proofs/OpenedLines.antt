@@ -39,10 +39,11 @@ use Rattle.faults.proofs.Digits.{digit, put-low-half, put-below, put-shows}
 use Rattle.faults.proofs.Faulted.{openedScreen, none-undivided, opened-faulted}
 use Rattle.faults.proofs.Opening.{Bits}
 use Rattle.circuit.specs.CircuitCall.{roomAnswer, circuitAnswer, circuitSpectrum}
-use Rattle.agreement.specs.Pairs.{withPair, presentPairs, pairValue, stuckValues}
+use Rattle.lookup.specs.StuckPairs.{withPair, presentPairs, pairValue, stuckValues}
 use Rattle.agreement.specs.Opened.{drivenBy, driven, openedCircuitRow, openedCircuitRows}
-use Rattle.agreement.proofs.Accepted.{named-fault-right, spectrum-is, answer-is, room-enough, room-answer}
-use Rattle.agreement.proofs.Pairs.{bit-back, with-none, shownBy, shown-by-pairs, pairs-some, pairs-few, values-bits, values-binary}
+use Rattle.agreement.proofs.Accepted.{named-fault-right, circuit-spectrum-is, circuit-answer-is, room-enough, room-answer}
+use Rattle.lookup.proofs.StuckPairs.{with-none, pairs-some, pairs-few, values-bits, values-binary}
+use Rattle.agreement.proofs.Pairs.{bit-back, shownBy, shown-by-pairs}
 use Rattle.agreement.proofs.SameRows.{same-row}
 
 -- The number of a row with the opened lines set.
@@ -224,10 +225,10 @@ module _ (text : List ℕ) (n : Netlist) (parsed : parseOf text ≡ accepted n) 
   right = named-fault-right n k well low high
 
   pub opened-lines-answer : (room : ℕ) → openedAnswer (spectrumOf (openedCircuitRows n (faultAt n k))) (stuckValues (faultAt n k)) room ≡ circuitAnswer text k room
-  opened-lines-answer room = opened-answer (topOf n) n (faultAt n k) right well room ∙ sym (answer-is text n parsed k room high)
+  opened-lines-answer room = opened-answer (topOf n) n (faultAt n k) right well room ∙ sym (circuit-answer-is text n parsed k high room)
 
   pub opened-lines-done : (room : ℕ) → 2 ^ n .inputs ≤ room → openedAnswer (spectrumOf (openedCircuitRows n (faultAt n k))) (stuckValues (faultAt n k)) room ≡ Done
   opened-lines-done room enough = opened-answer (topOf n) n (faultAt n k) right well room ∙ room-enough (n .inputs) room enough
 
   pub opened-lines-agree : openedSpectrumOf (spectrumOf (openedCircuitRows n (faultAt n k))) (stuckValues (faultAt n k)) ≡ circuitSpectrum text k
-  opened-lines-agree = opened-circuit-spectrum (topOf n) n (faultAt n k) right well ∙ sym (spectrum-is text n parsed k)
+  opened-lines-agree = opened-circuit-spectrum (topOf n) n (faultAt n k) right well ∙ sym (circuit-spectrum-is text n parsed k high)

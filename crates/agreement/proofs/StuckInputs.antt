@@ -9,17 +9,16 @@ use mathlib.Core.List.{List, [], _∷_, map}
 use mathlib.Core.Logic.{inl, inr}
 use Prim.Native.Nat.{ℕ, _+_, _-_, _^_, _≤_, _<_}
 use native.Mathlib.Omega.{arith}
-use lib.Dec.{eqb, lit≤}
+use lib.Dec.{eqb}
 use lib.IntN.{pos}
 use lib.ListN.{length}
 use borrow.Author.Tests.{eqb-true, eqb-false, ne-eqb}
 use Rattle.integer.specs.Tab.{tab}
-use Rattle.integer.proofs.Bounds.{within-more}
 use Rattle.integer.proofs.Tabs.{tab-ext, getD-tab}
 use Rattle.netlist.specs.Circuits.{Netlist, faultAt}
 use Rattle.netlist.specs.Parsing.{accepted, parseOf}
 use Rattle.sections.specs.FaultLines.{Above, FaultRight}
-use Rattle.netlist.specs.WellFormed.{WellFormed, topOf}
+use Rattle.netlist.specs.WellFormed.{topOf}
 use Rattle.netlist.proofs.Acceptance.{well-formed}
 use Rattle.gates.specs.Gates.{stuckOr, shown, applied}
 use Rattle.simulation.specs.Rows.{inputShown, rowValue, rowsOf}
@@ -28,20 +27,22 @@ use Rattle.simulation.proofs.Showing.{others-keep, sound-keeps}
 use Rattle.statements.specs.Items.{sound}
 use Rattle.statements.specs.declared.Fault.{Fault}
 use Rattle.statements.specs.declared.Pair.{Pair}
-use Rattle.screen.specs.Answers.{inputsOf}
-use Rattle.transform.specs.Spectrum.{spectrumOf}
 use Rattle.screen.specs.declared.Answer.the-variants.{Done}
-use Rattle.screen.proofs.Screens.{inputs-is}
-use Rattle.transform.proofs.Spectra.{length-spectrum}
-use Rattle.faults.specs.Faults.{Stuck, stuckOf, replaced, replacedAll, stuckRow, stuckRows, stuckRight, stuckAnswer, stuckSpectrumOf}
-use Rattle.faults.proofs.Arguments.{rising-rises, binary-values}
-use Rattle.faults.proofs.Faulted.{stuck-faulted, replaced-shows, replaced-keeps}
-use Rattle.faults.proofs.Sticking.{Rises, Values, replaced-below}
-use Rattle.circuit.specs.CircuitCall.{roomAnswer, circuitAnswer, circuitSpectrum}
-use Rattle.circuit.proofs.CircuitLaws.{spectrum-bounded}
-use Rattle.agreement.specs.Pairs.{presentPairs, pairLine, bitFor, pairValue, stuckLines, stuckValues, pairsOf, OfInputs}
-use Rattle.agreement.proofs.Accepted.{named-fault-right, spectrum-is, answer-is, room-enough, room-answer}
-use Rattle.agreement.proofs.Pairs.{bit-back, bit-small, shownBy, shown-by-pairs, lines-rise, values-binary, pairs-right}
+use Rattle.faults.specs.Faults.{Stuck, stuckOf, replaced, replacedAll, stuckRow, stuckRows, stuckAnswer, stuckSpectrumOf}
+use Rattle.faults.proofs.Faulted.{replaced-shows, replaced-keeps}
+use Rattle.faults.proofs.Sticking.{Rises}
+use Rattle.circuit.specs.CircuitCall.{circuitAnswer, circuitSpectrum}
+use Rattle.devices.specs.Devices.{circuitProblem}
+use Rattle.devices.specs.Problems.{problemFrom}
+use Rattle.devices.proofs.ProblemRows.{fault-count, circuit-rows}
+use Rattle.devices.proofs.TextKinds.{circuit-described}
+use Rattle.lookup.specs.StuckPairs.{presentPairs, pairLine, bitFor, pairValue, stuckLines, stuckValues, pairsOf, OfInputs}
+use Rattle.lookup.specs.TableRows.{faultRow}
+use Rattle.lookup.proofs.StuckPairs.{bit-small, pairs-rise}
+use Rattle.lookup.proofs.PairRows.{fault-row-below}
+use Rattle.agreement.proofs.Accepted.{named-fault-right}
+use Rattle.agreement.proofs.Pairs.{bit-back, shownBy, shown-by-pairs}
+use Rattle.agreement.proofs.StuckProblems.{StuckProblem, stuck-problem-answer, stuck-problem-done, stuck-problem-agree}
 use Rattle.agreement.proofs.SameRows.{same-row}
 
 -- Rows with inputs replaced.
@@ -86,17 +87,10 @@ replaced-applied (s ∷ rest) last top r x i = replaced-applied rest (s .line) t
         ∙ ap (λ (k : ℕ). eqb k 1) (replaced-keeps t first (i + 1) x (omega arith) (λ q. other (sym q)) (bit-small (s .value)))
         ∙ ap (applied x) (sym place))
 
-all-below : (lines : List Stuck) (last k x : ℕ) → Rises last k lines → Values lines → x < 2 ^ k → replacedAll lines x < 2 ^ k
-unfolding replacedAll
-all-below [] last k x r v h = h
-all-below (s ∷ rest) last k x r v h =
-    let low = r .0 in
-    all-below rest (s .line) k (replaced s x) (r .2) (v .1) (replaced-below s k (omega arith) (r .1) x h (v .0))
-
 -- A fault of inputs.
 
 -- right for the inputs alone
-pub input-fault : (n : Netlist) (f : Fault) → FaultRight (topOf n) f → OfInputs n f → FaultRight (n .inputs) f
+pub input-fault : (n : Netlist) (f : Fault) → FaultRight (topOf n) f → OfInputs (n .inputs) f → FaultRight (n .inputs) f
 input-fault n f r o =
     record {
       first-low = r .first-low;
@@ -110,14 +104,13 @@ input-fault n f r o =
     narrow last s (inl none) h = inl none
     narrow last s (inr some) h = inr (some .0, h)
 
-module _ (n : Netlist) (f : Fault) (right : FaultRight (topOf n) f) (inputs-only : OfInputs n f) where
+module _ (n : Netlist) (f : Fault) (right : FaultRight (topOf n) f) (inputs-only : OfInputs (n .inputs) f) where
   rises : Rises 0 (n .inputs) (pairsOf f)
-  unfolding pairsOf
-  rises = rising-rises 0 (n .inputs) (stuckLines f) (stuckValues f) (lines-rise (n .inputs) f (input-fault n f right inputs-only))
+  rises = pairs-rise (n .inputs) f (input-fault n f right inputs-only)
 
   row-stays : (x : ℕ) → x < 2 ^ n .inputs → replacedAll (pairsOf f) x < 2 ^ n .inputs
-  unfolding pairsOf
-  row-stays x h = all-below (pairsOf f) 0 (n .inputs) x rises (binary-values (stuckLines f) (stuckValues f) (values-binary f)) h
+  unfolding faultRow
+  row-stays x h = fault-row-below (n .inputs) f x inputs-only h
 
   input-row : (x : ℕ) → rowValue n f x ≡ rowValue n sound (replacedAll (pairsOf f) x)
   unfolding pairsOf stuckLines stuckValues
@@ -145,38 +138,25 @@ module _ (n : Netlist) (f : Fault) (right : FaultRight (topOf n) f) (inputs-only
 
 -- Fault k of an accepted text.
 
-module _ (text : List ℕ) (n : Netlist) (parsed : parseOf text ≡ accepted n) (k : ℕ) (low : 1 ≤ k) (high : k ≤ length (n .faults)) (inputs-only : OfInputs n (faultAt n k)) where
-  well : WellFormed n
-  well = well-formed text n parsed
-
+module _ (text : List ℕ) (n : Netlist) (parsed : parseOf text ≡ accepted n) (k : ℕ) (low : 1 ≤ k) (high : k ≤ length (n .faults)) (inputs-only : OfInputs (n .inputs) (faultAt n k)) where
   right : FaultRight (topOf n) (faultAt n k)
-  right = named-fault-right n k well low high
+  right = named-fault-right n k (well-formed text n parsed) low high
 
-  sound-answer : (room : ℕ) → stuckAnswer (spectrumOf (rowsOf n sound)) (stuckLines (faultAt n k)) (stuckValues (faultAt n k)) room ≡ roomAnswer (n .inputs) room
-  unfolding stuckAnswer
-  sound-answer =
-      let f = faultAt n k in
-      let c = spectrumOf (rowsOf n sound) in
-      let size : length c ≡ 2 ^ n .inputs = length-spectrum (rowsOf n sound) ∙ length-rows n sound in
-      let some = well .inputs-low in
-      let most = well .inputs-high in
-      let inputs : inputsOf (length c) ≡ n .inputs = ap inputsOf size ∙ inputs-is (n .inputs) (omega arith) (omega arith) in
-      room-answer 2048000 (n .inputs) (stuckRight (inputsOf (length c)) (stuckLines f) (stuckValues f)) c (length c) (omega arith)
-      (ap (λ (m : ℕ). stuckRight m (stuckLines f) (stuckValues f)) inputs ∙ pairs-right (n .inputs) f (input-fault n f right inputs-only))
-      (within-more {B = 15360} {C = 2048000} c (lit≤ tt) (spectrum-bounded n sound well)) size
+  agrees : StuckProblem text (circuitProblem n) k (faultAt n k)
+  unfolding circuitProblem problemFrom
+  agrees = record {
+    is = circuit-described text n parsed;
+    named = let q = fault-count (n .inputs) (rowsOf n) (n .faults) (n .cap) in omega (arith, q, high);
+    right = input-fault n (faultAt n k) right inputs-only;
+    rows = circuit-rows n k high ∙ input-rows n (faultAt n k) right inputs-only;
+  }
 
   pub stuck-inputs-answer : (room : ℕ) → stuckAnswer (circuitSpectrum text 0) (stuckLines (faultAt n k)) (stuckValues (faultAt n k)) room ≡ circuitAnswer text k room
-  stuck-inputs-answer room = rw (spectrum-is text n parsed 0) (sound-answer room) ∙ sym (answer-is text n parsed k room high)
+  stuck-inputs-answer = stuck-problem-answer agrees
 
   pub stuck-inputs-done : (room : ℕ) → 2 ^ n .inputs ≤ room → stuckAnswer (circuitSpectrum text 0) (stuckLines (faultAt n k)) (stuckValues (faultAt n k)) room ≡ Done
-  stuck-inputs-done room enough = rw (spectrum-is text n parsed 0) (sound-answer room) ∙ room-enough (n .inputs) room enough
+  unfolding circuitProblem problemFrom
+  stuck-inputs-done = stuck-problem-done agrees
 
   pub stuck-inputs-agree : stuckSpectrumOf (stuckOf (stuckLines (faultAt n k)) (stuckValues (faultAt n k))) (circuitSpectrum text 0) ≡ circuitSpectrum text k
-  unfolding pairsOf
-  stuck-inputs-agree =
-      let f = faultAt n k in
-      let room = 2 ^ n .inputs in
-      ap (stuckSpectrumOf (pairsOf f)) (spectrum-is text n parsed 0)
-      ∙ stuck-faulted (rowsOf n sound) (stuckLines f) (stuckValues f) room (sound-answer room ∙ room-enough (n .inputs) room (omega arith))
-      ∙ ap spectrumOf (sym (input-rows n f right inputs-only))
-      ∙ sym (spectrum-is text n parsed k)
+  stuck-inputs-agree = stuck-problem-agree agrees

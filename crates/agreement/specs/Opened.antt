@@ -10,7 +10,7 @@ use Rattle.gates.specs.Gates.{applied}
 use Rattle.simulation.specs.Rows.{rowValue}
 use Rattle.statements.specs.declared.Fault.{Fault}
 use Rattle.statements.specs.declared.Pair.{Pair}
-use Rattle.agreement.specs.Pairs.{stuckValues}
+use Rattle.lookup.specs.StuckPairs.{stuckValues}
 
 -- the pair's line, driven by bit i of row x
 abbrev pub drivenBy : ℕ → ℕ → Pair → Pair

@@ -3,7 +3,8 @@
 --   demand-two      spectra both ways, under faults too, and readings
 --   all-demands     these and planner's demand-three
 use mathlib.Core.List.{List}
-use mathlib.Core.Logic.{_⊎_, inl, inr, ⊎-elim}
+use mathlib.Core.Path.{ap, _∙_}
+use mathlib.Core.Logic.{inl, inr, ⊎-elim}
 use Prim.Native.Nat.{ℕ}
 use Rattle.statements.proofs.FormsMeant.{head-form, gate-form, output-form, fault-form}
 use Rattle.statements.proofs.LineNumbers.{head-least, gate-least, output-least, fault-least}
@@ -14,14 +15,24 @@ use Rattle.faults.specs.Faults.{stuckAnswer, openedAnswer}
 use Rattle.circuit.specs.CircuitCall.{circuitAnswer}
 use Rattle.circuit.proofs.CircuitLaws.{circuit-done}
 use Rattle.planner.proofs.Demanded.{demand-three}
+use Rattle.text.specs.Text.{before, fieldOf, lineEnd, sameBytes}
+use Rattle.text.proofs.Words.{same-equal, same-self}
+use Rattle.tables.specs.TableLines.{tableWord, isTable}
+use Rattle.tables.proofs.TableNumbers.{table-head-least, marks-least}
+use Rattle.tables.proofs.TableFormsMeant.{table-head-form, mark-form}
+use Rattle.tables.proofs.AcceptedTables.{tables-exactly, table-short}
+use Rattle.tables.proofs.TableRefusals.{table-one-exactly, table-line-exactly, table-seven-exactly, table-none-exactly, table-refused}
+use Rattle.devices.proofs.Descriptions.{table-text, circuit-text}
+use Rattle.devices.proofs.TextKinds.{table-unparsed}
 use Rattle.report.proofs.PrintedLabels.{printed-covers, printed-line}
 use Rattle.fixture.proofs.Exactly.{reading-exact, pair-exact}
-use Rattle.demands.specs.DemandOne.{TextsAnswered, LinesNumbered, DemandOne}
+use Rattle.demands.specs.DemandOne.{TextsAnswered, TablesAnswered, KindsTold, LinesNumbered, DemandOne}
 use Rattle.demands.specs.DemandTwo.{DemandTwo}
 use Rattle.demands.specs.Demands.{Demands}
 use Rattle.demands.proofs.ListCalls.{spectrum-tested, rows-tested, coefficient-tested, stuck-tested, opened-tested, writes-of, spectrum-zero, rows-zero, stuck-zero, opened-zero, coefficient-zero}
-use Rattle.demands.proofs.TextCalls.{circuit-tested, plan-tested, report-tested, reading-tested, pair-tested, plan-writing, report-writing, report-working, plan-zero, report-zero, reading-zero, pair-zero}
-use Rattle.demands.proofs.SpectraCircuits.{spectra-right, faulty-spectra-right, circuits-right, readings-right, case-right}
+use Rattle.demands.proofs.TextCalls.{circuit-tested, plan-tested, report-tested, reading-tested, pair-tested, plan-writing, report-writing, report-working, plan-zero, report-zero, reading-zero, pair-zero, tables-unread, tables-unpaired}
+use Rattle.demands.proofs.PlansMeant.{demand-three-circuit, demand-three-table}
+use Rattle.demands.proofs.SpectraCircuits.{spectra-right, faulty-spectra-right, circuits-right, tables-right, readings-right, case-right}
 
 texts-answered : (text : List ℕ) → TextsAnswered text
 texts-answered text =
@@ -35,20 +46,54 @@ texts-answered text =
       short = accepted-short text;
     }
 
+tables-answered : (text : List ℕ) → TablesAnswered text
+tables-answered text =
+    record {
+      too-long = table-one-exactly text;
+      line = table-line-exactly text;
+      bytes-follow = table-seven-exactly text;
+      no-other = table-refused text;
+      accept = tables-exactly text;
+      none-applies = table-none-exactly text;
+      short = table-short text;
+    }
+
+kinds-told : (text : List ℕ) → KindsTold text
+unfolding isTable
+kinds-told text =
+    record {
+      word = (same-equal (fieldOf (before lineEnd text) 0) tableWord, λ e. ap (λ (w : List ℕ). sameBytes w tableWord) e ∙ same-self tableWord);
+      table = table-text text;
+      other = circuit-text text;
+      unread = table-unparsed text;
+    }
+
 lines-numbered : (l : List ℕ) → LinesNumbered l
-lines-numbered l = record { head = head-least l; gate = λ own. gate-least own l; output = λ top. output-least top l; fault = λ top. fault-least top l }
+lines-numbered l =
+    record {
+      head = head-least l;
+      gate = λ own. gate-least own l;
+      output = λ top. output-least top l;
+      fault = λ top. fault-least top l;
+      table-head = table-head-least l;
+      marks = λ inputs. marks-least inputs l;
+    }
 
 pub demand-one : DemandOne
 demand-one =
     record {
       texts = texts-answered;
-      lines = record { head = head-form; gate = gate-form; output = output-form; fault = fault-form };
+      tables = tables-answered;
+      kinds = kinds-told;
+      lines = record { head = head-form; gate = gate-form; output = output-form; fault = fault-form; table-head = table-head-form; marks = mark-form };
       numbers = lines-numbered;
       circuit = circuit-tested;
       plan = plan-tested;
       report = report-tested;
       reading = reading-tested;
       pair = λ text fault mask values. pair-tested text mask values fault;
+      table-reading = tables-unread;
+      table-pair = λ text fault mask values table. tables-unpaired text mask values table fault;
       coefficient = coefficient-tested;
       spectrum = spectrum-tested;
       rows = rows-tested;
@@ -78,6 +123,7 @@ demand-two =
       spectra = spectra-right;
       faults = faulty-spectra-right;
       circuits = circuits-right;
+      tables = tables-right;
       readings = readings-right;
       cases = case-right;
       reading = reading-exact;
@@ -85,4 +131,4 @@ demand-two =
     }
 
 pub all-demands : Demands
-all-demands = record { one = demand-one; two = demand-two; three = record { plan = demand-three; printed = printed-covers; line = printed-line } }
+all-demands = record { one = demand-one; two = demand-two; three = record { plan = demand-three; circuit = demand-three-circuit; table = demand-three-table; printed = printed-covers; line = printed-line } }

@@ -2,6 +2,7 @@
 --   spectra-right           the list call and the way back
 --   faulty-spectra-right    the fault calls on spectra of rows
 --   circuits-right          the circuit call, and the fault calls on a circuit's spectra
+--   tables-right            the same of tables, with eq. 11 and 12 of document 004
 --   readings-right, case-right    whole sums and counts of readings, and the case of each
 use mathlib.Core.Path.{_≡_, refl, sym, ap, _∙_}
 use mathlib.Core.Bool.{Bool, true, false, _||_, or-true}
@@ -27,19 +28,29 @@ use Rattle.walsh.specs.Coefficients.{found, foundOf, foundNumber, foundValue}
 use Rattle.walsh.specs.Lists.{rowsAnswer}
 use Rattle.walsh.proofs.Undoing.{undo, redo, refused-exactly}
 use Rattle.faults.proofs.Faulted.{stuck-faulted, opened-faulted, opened-never-11}
-use Rattle.statements.specs.Items.{noOutput}
+use Rattle.statements.specs.Items.{noOutput, sound}
 use Rattle.statements.specs.declared.Output.{Output}
 use Rattle.netlist.specs.Circuits.{Netlist, faultAt}
 use Rattle.netlist.specs.Parsing.{accepted, parseOf}
 use Rattle.simulation.specs.Rows.{rowValue, rowsOf}
-use Rattle.agreement.proofs.Accepted.{spectrum-is}
+use Rattle.tables.specs.Tables.{TruthTable, tableFaultAt}
+use Rattle.tables.specs.TableParsing.{acceptedTable, tableOf}
+use Rattle.tables.proofs.TableAcceptance.{table-right}
+use Rattle.lookup.specs.TableRows.{tableRow}
+use Rattle.lookup.proofs.RowsOfTables.{sound-mark, table-row-is}
+use Rattle.lookup.proofs.FreeRows.{free-rows-half}
+use Rattle.devices.specs.Devices.{tableProblem}
+use Rattle.devices.proofs.ProblemRows.{table-rows}
+use Rattle.devices.proofs.TextKinds.{table-described}
+use Rattle.agreement.proofs.Accepted.{spectrum-is, circuit-spectrum-is}
+use Rattle.agreement.proofs.StuckTables.{table-inputs-answer, table-inputs-agree}
 use Rattle.agreement.proofs.StuckInputs.{stuck-inputs-agree}
 use Rattle.agreement.proofs.OpenedLines.{opened-lines-agree}
 use Rattle.reading.proofs.AgreeingRows.{agrees-exactly}
 use Rattle.reading.specs.Readings.{caseOf, readingNumber}
 use Rattle.reading.specs.declared.Reading.{Reading}
 use Rattle.fixture.specs.ReadingCall.{someAboveOne, isWeighted, faultMean, fixesInputs, unless12, readingAnswer, sumOf, rowCount}
-use Rattle.demands.specs.DemandTwo.{SpectraRight, FaultySpectraRight, CircuitsRight, ReadingsRight, AboveOne, CaseRight}
+use Rattle.demands.specs.DemandTwo.{SpectraRight, FaultySpectraRight, CircuitsRight, TablesRight, ReadingsRight, AboveOne, CaseRight}
 use Rattle.demands.proofs.ListCalls.{ZeroDone, screen-zero, spectrum-zero, rows-zero, stuck-zero, opened-zero}
 
 -- ---- spectra
@@ -87,9 +98,23 @@ unfolding rowsOf
 circuits-right text n e =
     record {
       rows = λ k x h. getD-tab (2 ^ n .inputs) (rowValue n (faultAt n k)) (pos 0) x h;
-      spectrum = spectrum-is text n e;
+      spectrum = circuit-spectrum-is text n e;
       stuck-inputs = λ k named inputs-only. stuck-inputs-agree text n e k (named .0) (named .1) inputs-only;
       opened-lines = λ k named. opened-lines-agree text n e k (named .0) (named .1);
+    }
+
+-- ---- tables
+
+pub tables-right : (text : List ℕ) (t : TruthTable) → tableOf text ≡ acceptedTable t → TablesRight text t
+unfolding tableRow
+tables-right text t e =
+    record {
+      rows = λ k x h. table-row-is t (tableFaultAt t k) x h;
+      sound-rows = λ x h. table-row-is t sound x h ∙ ap (λ (y : ℕ). pos (getD (t .marks) y 0)) (sound-mark x);
+      spectrum = λ k h. spectrum-is text (tableProblem t) (table-described text t e) k ∙ ap spectrumOf (table-rows t k h);
+      free-rows = λ k label. free-rows-half t (tableFaultAt t k) (table-right text t e) label;
+      stuck-inputs = λ k named. table-inputs-agree text t e k (named .0) (named .1);
+      stuck-answer = λ k room named. table-inputs-answer text t e k (named .0) (named .1) room;
     }
 
 -- ---- readings

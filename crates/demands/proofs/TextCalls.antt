@@ -2,6 +2,7 @@
 --   circuit-tested, plan-tested, report-tested, reading-tested, pair-tested    each call
 --   plan-writing, report-writing, report-working                               what the plan and the report leave in what they were lent
 --   plan-zero, report-zero, reading-zero, pair-zero                            what is returned with a refusal
+--   tables-unread, tables-unpaired                                             a table is never read: 1 where it is too long, else 2 at line 1
 use mathlib.Core.Path.{_≡_, refl, sym, ap, _∙_, subst}
 use mathlib.Core.Bool.{Bool, true, false, cond, _&&_, _||_, or-true}
 use mathlib.Core.List.{List, [], _∷_}
@@ -19,41 +20,47 @@ use Rattle.screen.specs.Answers.{answerNumber, answerPlace, refuseIf}
 use Rattle.screen.specs.declared.Answer.the-variants.{Done, Refused}
 use Rattle.netlist.specs.Circuits.{Netlist}
 use Rattle.netlist.specs.Parsing.{Parse, accepted, rejected, parseOf, onParse}
+use Rattle.netlist.proofs.Assembling.{too-long}
+use Rattle.text.specs.Text.{textBytes}
+use Rattle.tables.specs.TableLines.{isTable}
+use Rattle.devices.proofs.TextKinds.{table-unparsed}
+use Rattle.devices.specs.Describing.{Description, described, refusedAt, descriptionOf, onDescription}
+use Rattle.devices.specs.Problems.{Problem}
 use Rattle.circuit.specs.CircuitCall.{roomAnswer, faultAnswer, circuitAnswer}
-use Rattle.planner.specs.PlanCall.{Verdict, refused, planned, verdictOf, workingNumbers, circuitVerdict, planVerdict, planNumbers, planAnswer, refusalNumber, mayUse, WorkKept}
-use Rattle.planner.specs.Demand.{Named, Possible, Right}
+use Rattle.planner.specs.PlanCall.{Verdict, refused, planned, verdictOf, workingNumbers, problemVerdict, planVerdict, planNumbers, planAnswer, refusalNumber, mayUse, WorkKept}
+use Rattle.planner.specs.Demand.{Possible, Right}
 use Rattle.planner.specs.declared.Planned.{Planned}
 use Rattle.planner.proofs.Demanded.{demand-three}
 use Rattle.report_lines.specs.ReportLines.{refusedLine, reportBytes}
 use Rattle.report.specs.declared.Reported.{Reported}
-use Rattle.report.specs.ReportCall.{verdictLines, circuitReport, reportOf, short, reportAnswer, reportLeft, reportVerdict}
+use Rattle.report.specs.ReportCall.{verdictLines, problemReport, reportOf, short, reportAnswer, reportLeft, reportVerdict}
 use Rattle.reading.specs.Readings.{none, caseWith, caseOf, readingNumber, readingPlace, readingOf, fixedOf}
 use Rattle.reading.specs.declared.Reading.{Reading}
 use Rattle.reading.specs.declared.Reading.the-variants.{Syndrome, Weighted, Constrained, Refused as Unread}
 use Rattle.fixture.proofs.Exactly.{case-done}
 use Rattle.fixture.specs.declared.Compared.{Compared}
 use Rattle.fixture.specs.ReadingCall.{fixesInputs, isWeighted, faultMean, unless12, circuitReading, readingAnswer, unread, pairNumbers, namesFault, circuitPair, pairAnswer}
-use Rattle.demands.specs.Tests.{NoRefusal, RefusedIf, by-this, by-later, AtNone, OnText}
-use Rattle.demands.specs.Refusals.{CircuitTests, FirstSilentFault, PlanTests, FixesInputs, ReadingTests, PairTests}
+use Rattle.demands.specs.Tests.{NoRefusal, RefusedIf, by-this, by-later, AtNone, OnDevice, OnText}
+use Rattle.demands.specs.Refusals.{CircuitTests, FirstSilentFault, PlanTests, FixesInputs, ReadingTests, CircuitFault, PairTests}
 use Rattle.demands.specs.DemandOne.{PlanWrites, ReportWrites}
 use Rattle.demands.proofs.ListCalls.{refused-if}
 
 -- ---- the circuit call
 
-pub circuit-tested : (text : List ℕ) (fault room : ℕ) → OnText text (CircuitTests fault room) (answerNumber (circuitAnswer text fault room)) (answerPlace (circuitAnswer text fault room))
+pub circuit-tested : (text : List ℕ) (fault room : ℕ) → OnDevice text (CircuitTests fault room) (answerNumber (circuitAnswer text fault room)) (answerPlace (circuitAnswer text fault room))
 unfolding circuitAnswer faultAnswer roomAnswer
-circuit-tested text fault room = go (parseOf text) refl
+circuit-tested text fault room = go (descriptionOf text) refl
   where
-    go : (p : Parse) → parseOf text ≡ p
-        → OnText text (CircuitTests fault room) (answerNumber (onParse (faultAnswer fault room) Refused p)) (answerPlace (onParse (faultAnswer fault room) Refused p))
-    go (rejected number place) e = inl e
-    go (accepted n) e = inr (
+    go : (d : Description) → descriptionOf text ≡ d
+        → OnDevice text (CircuitTests fault room) (answerNumber (onDescription (faultAnswer fault room) Refused d)) (answerPlace (onDescription (faultAnswer fault room) Refused d))
+    go (refusedAt number place) e = inl e
+    go (described n) e = inr (
       n,
       e,
-      refused-if (ltb (length (n .faults)) fault) (λ a. answerNumber (refuseIf a 12 0 (roomAnswer (n .inputs) room))) (λ a. answerPlace (refuseIf a 12 0 (roomAnswer (n .inputs) room)))
-          (λ a. ((ltb-true (length (n .faults)) fault a, refl), refl))
+      refused-if (ltb (length (n .faulted)) fault) (λ a. answerNumber (refuseIf a 12 0 (roomAnswer (n .inputs) room))) (λ a. answerPlace (refuseIf a 12 0 (roomAnswer (n .inputs) room)))
+          (λ a. ((ltb-true (length (n .faulted)) fault a, refl), refl))
           (λ a. (
-            λ p f. absurd (omega (arith, f .0, ltb-false (length (n .faults)) fault a)),
+            λ p f. absurd (omega (arith, f .0, ltb-false (length (n .faulted)) fault a)),
             refused-if (ltb room (2 ^ n .inputs)) (λ b. answerNumber (refuseIf b 8 0 Done)) (λ b. answerPlace (refuseIf b 8 0 Done))
                 (λ b. ((ltb-true room (2 ^ n .inputs) b, refl), refl))
                 (λ b. (λ p f. absurd (omega (arith, f .0, ltb-false room (2 ^ n .inputs) b)), (refl, refl))),
@@ -66,16 +73,16 @@ module _ (text : List ℕ) (work : ℕ) where
   abbrev plan : Planned
   plan = planAnswer text work
 
-  plan-rejected : (number place : ℕ) → parseOf text ≡ rejected number place → plan ≡ planNumbers (refused number place)
+  plan-rejected : (number place : ℕ) → descriptionOf text ≡ refusedAt number place → plan ≡ planNumbers (refused number place)
   unfolding planAnswer planVerdict
   plan-rejected number place e = rw e
 
-  plan-accepted : (n : Netlist) → parseOf text ≡ accepted n → plan ≡ planNumbers (circuitVerdict work n)
+  plan-accepted : (n : Problem) → descriptionOf text ≡ described n → plan ≡ planNumbers (problemVerdict work n)
   unfolding planAnswer planVerdict
   plan-accepted n e = rw e
 
   -- with enough working numbers, by demand 3
-  plan-right : (n : Netlist) → Right n plan → RefusedIf 13 (FirstSilentFault n) (RefusedIf 14 (AtNone (Possible n → ⊥)) NoRefusal) (plan .number) (plan .place)
+  plan-right : (n : Problem) → Right n plan → RefusedIf 13 (FirstSilentFault n) (RefusedIf 14 (AtNone (Possible n → ⊥)) NoRefusal) (plan .number) (plan .place)
   plan-right n r = go (r .no-other)
     where
       none-silent : (plan .number ≡ 13 → ⊥) → (p : ℕ) → FirstSilentFault n p → ⊥
@@ -86,12 +93,12 @@ module _ (text : List ℕ) (work : ℕ) where
       go (inr (inl z)) = let s = r .silent-first z in by-this record { named = s .0; silent = s .1; none-earlier = s .2 } z
       go (inr (inr z)) = by-later (none-silent (λ e. omega (arith, z, e))) (by-this (r .unplanned-exactly .0 z .0, r .unplanned-place z) z)
 
-  pub plan-tested : OnText text (PlanTests work) (plan .number) (plan .place)
-  plan-tested = go (parseOf text) refl
+  pub plan-tested : OnDevice text (PlanTests work) (plan .number) (plan .place)
+  plan-tested = go (descriptionOf text) refl
     where
-      go : (p : Parse) → parseOf text ≡ p → OnText text (PlanTests work) (plan .number) (plan .place)
-      go (rejected number place) e = subst (λ (a : Planned). OnText text (PlanTests work) (a .number) (a .place)) (sym (plan-rejected number place e)) (inl e)
-      go (accepted n) e = inr (n, e, enough (ltb work workingNumbers) refl)
+      go : (d : Description) → descriptionOf text ≡ d → OnDevice text (PlanTests work) (plan .number) (plan .place)
+      go (refusedAt number place) e = subst (λ (a : Planned). OnDevice text (PlanTests work) (a .number) (a .place)) (sym (plan-rejected number place e)) (inl e)
+      go (described n) e = inr (n, e, enough (ltb work workingNumbers) refl)
         where
           enough : (t : Bool) → ltb work workingNumbers ≡ t → PlanTests work n (plan .number) (plan .place)
           enough true t =
@@ -164,12 +171,12 @@ module _ (text : List ℕ) where
 
   pub report-writing : (out : List ℕ) (work : ℕ) → ReportWrites text out work
   unfolding reportLeft reportOf
-  report-writing out work = record { short = λ h. rw (short-back (length out) work h); refusal-line = λ h f. go h f (parseOf text) refl }
+  report-writing out work = record { short = λ h. rw (short-back (length out) work h); refusal-line = λ h f. go h f (descriptionOf text) refl }
     where
-      go : workingNumbers ≤ work → (planAnswer text work .number ≡ 0 → ⊥) → (p : Parse) → parseOf text ≡ p
-          → onParse circuitReport refusedLine p ≡ refusedLine (planAnswer text work .number) (planAnswer text work .place)
-      go h f (rejected number place) e = sym (ap (λ (a : Planned). refusedLine (a .number) (a .place)) (plan-rejected text work number place e))
-      go h f (accepted n) e = line (verdictOf n) (plan-accepted text work n e ∙ ap (λ (b : Bool). planNumbers (cond b (refused 8 0) (verdictOf n))) (le-ltb work workingNumbers h))
+      go : workingNumbers ≤ work → (planAnswer text work .number ≡ 0 → ⊥) → (d : Description) → descriptionOf text ≡ d
+          → onDescription problemReport refusedLine d ≡ refusedLine (planAnswer text work .number) (planAnswer text work .place)
+      go h f (refusedAt number place) e = sym (ap (λ (a : Planned). refusedLine (a .number) (a .place)) (plan-rejected text work number place e))
+      go h f (described n) e = line (verdictOf n) (plan-accepted text work n e ∙ ap (λ (b : Bool). planNumbers (cond b (refused 8 0) (verdictOf n))) (le-ltb work workingNumbers h))
         where
           line : (v : Verdict) → planAnswer text work ≡ planNumbers v → verdictLines n v ≡ refusedLine (planAnswer text work .number) (planAnswer text work .place)
           line (refused number place) q = sym (ap (λ (a : Planned). refusedLine (a .number) (a .place)) q)
@@ -200,13 +207,13 @@ module _ (n : Netlist) (mask values : ℕ) where
   unfolding fixesInputs
   fixes-back f = rw (lt-ltb mask (2 ^ n .inputs) (f .0), eq-eqb (bitAnd values mask) values (f .1))
 
-  names-there : (fault : ℕ) → namesFault (length (n .faults)) fault ≡ true → Named n fault
+  names-there : (fault : ℕ) → namesFault (length (n .faults)) fault ≡ true → CircuitFault n fault
   unfolding namesFault
   names-there fault e =
       let p = both (ltb 0 fault) (leb fault (length (n .faults))) e in
       (ltb-true 0 fault (p .0), leb-true fault (length (n .faults)) (p .1))
 
-  names-back : (fault : ℕ) → Named n fault → namesFault (length (n .faults)) fault ≡ true
+  names-back : (fault : ℕ) → CircuitFault n fault → namesFault (length (n .faults)) fault ≡ true
   unfolding namesFault
   names-back fault f = rw (lt-ltb 0 fault (f .0), le-leb fault (length (n .faults)) (f .1))
 
@@ -285,3 +292,33 @@ module _ (text : List ℕ) (mask values : ℕ) where
             × (onParse (circuitPair fault mask values) unread p .readings .difference ≡ none)
         go (rejected number place) f = (refl, refl, refl)
         go (accepted n) f = suits n (fixesInputs (n .inputs) mask values && namesFault (length (n .faults)) fault) f
+
+-- ---- readings of tables
+
+module _ (text : List ℕ) (mask values : ℕ) (table : isTable text ≡ true) where
+  -- how document 01's parser refuses it
+  abbrev Unparsed : ℕ → ℕ → Type 0
+  Unparsed = RefusedIf 1 (AtNone (textBytes < length text)) (λ number place. (number ≡ 2) × (place ≡ 1))
+
+  -- and no circuit is stated
+  refuses : {A : Type 0} (found : Netlist → A) (refuse : ℕ → ℕ → A) (number place : A → ℕ) → ((a b : ℕ) → (number (refuse a b) ≡ a) × (place (refuse a b) ≡ b))
+      → Unparsed (number (onParse found refuse (parseOf text))) (place (onParse found refuse (parseOf text)))
+  refuses {A} found refuse number place is = go (ltb textBytes (length text)) refl
+    where
+      by : {a b : ℕ} → Unparsed a b → parseOf text ≡ rejected a b → Unparsed (number (onParse found refuse (parseOf text))) (place (onParse found refuse (parseOf text)))
+      by {a} {b} u e =
+          let there = ap (onParse found refuse) e in
+          subst (λ (x : A). Unparsed (number x) (place x)) (sym there)
+          (subst (λ (k : ℕ). Unparsed k (place (refuse a b))) (sym (is a b .0)) (subst (Unparsed a) (sym (is a b .1)) u))
+
+      go : (t : Bool) → ltb textBytes (length text) ≡ t → Unparsed (number (onParse found refuse (parseOf text))) (place (onParse found refuse (parseOf text)))
+      go true t = let h = ltb-true textBytes (length text) t in by (by-this (h, refl) refl) (too-long text h)
+      go false t = let h = ltb-false textBytes (length text) t in by (by-later (λ p f. absurd (omega (arith, f .0, h))) (refl, refl)) (table-unparsed text table h)
+
+  pub tables-unread : Unparsed (readingNumber (readingAnswer text mask values)) (readingPlace (readingAnswer text mask values))
+  unfolding readingAnswer
+  tables-unread = refuses (circuitReading mask values) Unread readingNumber readingPlace (λ a b. (refl, refl))
+
+  pub tables-unpaired : (fault : ℕ) → Unparsed (pairAnswer text fault mask values .number) (pairAnswer text fault mask values .place)
+  unfolding pairAnswer unread
+  tables-unpaired fault = refuses (circuitPair fault mask values) unread (λ r. r .number) (λ r. r .place) (λ a b. (refl, refl))

@@ -4,6 +4,7 @@
 -- Limits stand here as the paper's numbers, not by name: a limit that moves must move here too.
 -- That every call ends and does nothing undefined is the prover's part: no function passes the gate without it, and no call has a `requires`.
 use Prim.Native.Nat.{ℕ, _<_, _≤_}
+use mathlib.Core.Bool.{true, false}
 use mathlib.Core.List.{List, [], _∷_}
 use mathlib.Core.Logic.{_↔_, _⊎_}
 use mathlib.Core.Path.{_≡_}
@@ -23,13 +24,22 @@ use Rattle.netlist.specs.CircuitText.{textOf}
 use Rattle.netlist.specs.Parsing.{accepted, rejected, parseOf}
 use Rattle.netlist.specs.Places.{LineFails, BytesFollow, NoneApplies}
 use Rattle.netlist.specs.WellFormed.{WellFormed}
+use Rattle.tables.specs.TableForms.{TableHeadForm, MarkForm}
+use Rattle.tables.specs.TableLines.{isTable, tableHeadTests, tableHeadRefusal, markTests, markRefusal}
+use Rattle.tables.specs.TableParsing.{acceptedTable, rejectedTable, tableOf}
+use Rattle.tables.specs.TablePlaces.{TableLineNumber, TableLineFails, TableBytesFollow, TableNoneApplies}
+use Rattle.tables.specs.TableText.{tableText}
+use Rattle.tables.specs.TableWellFormed.{TableRight}
+use Rattle.tables.specs.Tables.{TruthTable}
+use Rattle.devices.specs.Describing.{descriptionOf, ofCircuit, ofTable}
+use Rattle.text.specs.Text.{bytesOf, before, fieldOf, lineEnd}
 use Rattle.circuit.specs.CircuitCall.{circuitAnswer}
 use Rattle.planner.specs.PlanCall.{planVerdict, planAnswer, WorkKept}
 use Rattle.report_lines.specs.ReportLines.{refusedLine}
 use Rattle.report.specs.ReportCall.{reportOf, reportAnswer, reportLeft, reportVerdict}
 use Rattle.reading.specs.Readings.{none, readingNumber, readingPlace, readingOf, fixedOf}
 use Rattle.fixture.specs.ReadingCall.{readingAnswer, pairAnswer}
-use Rattle.demands.specs.Tests.{NoRefusal, RefusedIf, AtNone, OnText}
+use Rattle.demands.specs.Tests.{NoRefusal, RefusedIf, AtNone, OnDevice, OnText}
 use Rattle.demands.specs.Refusals.{CoefficientTests, SpectrumTests, RowsTests, StuckTests, OpenedTests, CircuitTests, PlanTests, ReadingTests, PairTests}
 
 -- "A malformed text gets its refusal number and place": each number exactly where it holds, and a text is accepted exactly when it is the one written from a
@@ -44,19 +54,42 @@ pub record TextsAnswered (text : List ℕ) : Type 0 where
   pub none-applies : ((n : Netlist) × (parseOf text ≡ accepted n)) ↔ NoneApplies text
   pub short : (n : Netlist) → parseOf text ≡ accepted n → length text ≤ 1512
 
--- what each kind of line is tested for, by the numbers that it is written from
+-- the same of tables (document 02, note 1): 2, 3, 5 and 6 at a line, 15 at line 2, 7 at the line after the last
+pub record TablesAnswered (text : List ℕ) : Type 0 where
+  pub too-long : (tableOf text ≡ rejectedTable 1 0) ↔ (16384 < length text)
+  pub line : (number place : ℕ) → ((tableOf text ≡ rejectedTable number place) × TableLineNumber number place) ↔ TableLineFails text number place
+  pub bytes-follow : (place : ℕ) → (tableOf text ≡ rejectedTable 7 place) ↔ TableBytesFollow text place
+  pub no-other : (number place : ℕ) → tableOf text ≡ rejectedTable number place
+      → ((number ≡ 1) × (place ≡ 0)) ⊎ ((1 ≤ place) × (place ≤ 35) × ((number ≡ 7) ⊎ TableLineNumber number place))
+  pub accept : (t : TruthTable) → (tableOf text ≡ acceptedTable t) ↔ (TableRight t × (text ≡ tableText t))
+  pub none-applies : ((t : TruthTable) × (tableOf text ≡ acceptedTable t)) ↔ TableNoneApplies text
+  pub short : (t : TruthTable) → tableOf text ≡ acceptedTable t → length text ≤ 846
+
+-- which kind a text is: a table where the first field of its first line is `table`, and every other text is read as document 01 has it. "readings and later
+-- calls on circuit texts give 2 at line 1 for a table", and 1 where it is too long
+pub record KindsTold (text : List ℕ) : Type 0 where
+  pub word : (isTable text ≡ true) ↔ (fieldOf (before lineEnd text) 0 ≡ bytesOf "table")
+  pub table : isTable text ≡ true → descriptionOf text ≡ ofTable (tableOf text)
+  pub other : isTable text ≡ false → descriptionOf text ≡ ofCircuit (parseOf text)
+  pub unread : isTable text ≡ true → length text ≤ 16384 → parseOf text ≡ rejected 2 1
+
+-- what each kind of line is tested for, by what it is written from
 pub record LinesTested : Type 0 where
   pub head : HeadForm
   pub gate : GateForm
   pub output : OutputForm
   pub fault : FaultForm
+  pub table-head : TableHeadForm
+  pub marks : MarkForm
 
--- "within a line 2, 3, then 4, 5, 6"
+-- "within a line 2, 3, then 4, 5, 6", and 15 "after 2"
 pub record LinesNumbered (l : List ℕ) : Type 0 where
   pub head : LeastFailing (headTests l) (headRefusal l)
   pub gate : (own : ℕ) → LeastFailing (gateTests own l) (gateRefusal own l)
   pub output : (top : ℕ) → LeastFailing (outputTests top l) (outputRefusal top l)
   pub fault : (top : ℕ) → LeastFailing (faultTests top l) (faultRefusal top l)
+  pub table-head : LeastFailing (tableHeadTests l) (tableHeadRefusal l)
+  pub marks : (inputs : ℕ) → LeastFailing (markTests inputs l) (markRefusal inputs l)
 
 -- a call on a list that writes: "a refusal writes nothing"
 pub record Writes (a : Answer) (new out : List ℤ) : Type 0 where
@@ -84,14 +117,21 @@ pub record RefusedZero : Type 0 where
 
 pub record DemandOne : Type 0 where
   pub texts : (text : List ℕ) → TextsAnswered text
+  pub tables : (text : List ℕ) → TablesAnswered text
+  pub kinds : (text : List ℕ) → KindsTold text
   pub lines : LinesTested
   pub numbers : (l : List ℕ) → LinesNumbered l
   -- calls on a text
-  pub circuit : (text : List ℕ) (fault room : ℕ) → let a = circuitAnswer text fault room in OnText text (CircuitTests fault room) (answerNumber a) (answerPlace a)
-  pub plan : (text : List ℕ) (work : ℕ) → let a = planAnswer text work in OnText text (PlanTests work) (a .number) (a .place)
+  pub circuit : (text : List ℕ) (fault room : ℕ) → let a = circuitAnswer text fault room in OnDevice text (CircuitTests fault room) (answerNumber a) (answerPlace a)
+  pub plan : (text : List ℕ) (work : ℕ) → let a = planAnswer text work in OnDevice text (PlanTests work) (a .number) (a .place)
   pub report : (text : List ℕ) (room work : ℕ) → RefusedIf 8 (AtNone ((room < 1024) ⊎ (work < 4608))) NoRefusal (reportAnswer text room work .number) 0
   pub reading : (text : List ℕ) (mask values : ℕ) → let a = readingAnswer text mask values in OnText text (ReadingTests mask values) (readingNumber a) (readingPlace a)
   pub pair : (text : List ℕ) (fault mask values : ℕ) → let a = pairAnswer text fault mask values in OnText text (PairTests fault mask values) (a .number) (a .place)
+  -- a table is never read: 1 where it is too long, else 2 at line 1, whatever else is wrong with it
+  pub table-reading : (text : List ℕ) (mask values : ℕ) → isTable text ≡ true → let a = readingAnswer text mask values in
+      RefusedIf 1 (AtNone (16384 < length text)) (λ number place. (number ≡ 2) × (place ≡ 1)) (readingNumber a) (readingPlace a)
+  pub table-pair : (text : List ℕ) (fault mask values : ℕ) → isTable text ≡ true → let a = pairAnswer text fault mask values in
+      RefusedIf 1 (AtNone (16384 < length text)) (λ number place. (number ≡ 2) × (place ≡ 1)) (a .number) (a .place)
   -- calls on a list
   pub coefficient : (rows : List ℤ) (label : ℕ) → let a = foundOf rows label in CoefficientTests rows label (foundNumber a) (foundPlace a)
   pub spectrum : (rows : List ℤ) (room : ℕ) → let a = spectrumAnswer rows room in SpectrumTests rows room (answerNumber a) (answerPlace a)

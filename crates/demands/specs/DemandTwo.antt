@@ -1,7 +1,7 @@
 -- Demand 2, in the user's words, over the definitions that the calls' promises cite:
 --   "Spectra equal the paper's sums, both ways. A faulty spectrum worked out from coefficients alone equals the sums over the faulted rows. A
 --   reading is the exact fraction."
-use Prim.Native.Nat.{ℕ, _<_, _≤_, _^_}
+use Prim.Native.Nat.{ℕ, _+_, _*_, _<_, _≤_, _^_}
 use mathlib.Core.Bool.{true}
 use mathlib.Core.List.{List}
 use mathlib.Core.Logic.{_↔_, _⊎_}
@@ -9,29 +9,33 @@ use mathlib.Core.Path.{_≡_}
 use lib.Bits.{bitAnd}
 use lib.Count.{ones}
 use lib.Ieee.{Float}
-use lib.IntN.{ℤ, pos}
+use lib.IntN.{ℤ, pos, _-ℤ_}
 use lib.ListN.{length, getD}
 use lib.Signed.{ltZ}
 use Rattle.integer.specs.Mask.{bit}
 use Rattle.integer.specs.Sum.{sumTo, signed}
 use Rattle.integer.specs.Tab.{nth, Within}
 use Rattle.screen.specs.Answers.{answerNumber}
-use Rattle.transform.specs.Spectrum.{sign, spectrumOf}
+use Rattle.transform.specs.Spectrum.{sign, coefficientOf, spectrumOf}
 use Rattle.walsh.specs.Coefficients.{foundOf, foundNumber, foundValue}
 use Rattle.walsh.specs.Lists.{spectrumAnswer, inverseRows, rowsAnswer}
 use Rattle.faults.specs.Faults.{stuckOf, stuckAnswer, stuckSpectrumOf, stuckRows, keptInputs, openedAnswer, openedSpectrumOf, openedRows}
-use Rattle.statements.specs.Items.{noOutput}
+use Rattle.statements.specs.Items.{noOutput, sound}
 use Rattle.netlist.specs.Circuits.{Netlist, faultAt}
 use Rattle.netlist.specs.Parsing.{accepted, parseOf}
 use Rattle.simulation.specs.Rows.{rowValue, rowsOf}
-use Rattle.circuit.specs.CircuitCall.{circuitSpectrum}
-use Rattle.planner.specs.Demand.{Named}
-use Rattle.agreement.specs.Pairs.{stuckLines, stuckValues, OfInputs}
+use Rattle.tables.specs.Tables.{TruthTable, tableFaultAt}
+use Rattle.tables.specs.TableParsing.{acceptedTable, tableOf}
+use Rattle.lookup.specs.FreeRows.{onesWith, freeWith}
+use Rattle.lookup.specs.TableRows.{faultRow, tableRows}
+use Rattle.circuit.specs.CircuitCall.{circuitAnswer, circuitSpectrum}
+use Rattle.lookup.specs.StuckPairs.{stuckLines, stuckValues, OfInputs}
 use Rattle.agreement.specs.Opened.{openedCircuitRows}
 use Rattle.reading.specs.Readings.{agrees, wholeSum, countOf, readingNumber}
 use Rattle.reading.specs.declared.Reading.{Reading}
 use Rattle.reading.specs.declared.Reading.the-variants.{Syndrome, Weighted, Constrained}
 use Rattle.fixture.specs.ReadingCall.{readingAnswer, pairAnswer, sumOf, rowCount, ReadExactly, ComparedExactly}
+use Rattle.demands.specs.Refusals.{CircuitFault, TableFault}
 
 -- "The coefficient at a label is the signed sum of all row values", and back
 pub record SpectraRight : Type 0 where
@@ -56,12 +60,26 @@ pub record FaultySpectraRight : Type 0 where
 -- the circuit that an accepted text states, sound (0) and under each of its faults
 pub record CircuitsRight (text : List ℕ) (n : Netlist) : Type 0 where
   pub rows : (k x : ℕ) → x < 2 ^ n .inputs → nth (rowsOf n (faultAt n k)) x ≡ rowValue n (faultAt n k) x
-  pub spectrum : (k : ℕ) → circuitSpectrum text k ≡ spectrumOf (rowsOf n (faultAt n k))
+  pub spectrum : (k : ℕ) → k ≤ length (n .faults) → circuitSpectrum text k ≡ spectrumOf (rowsOf n (faultAt n k))
   -- from the sound spectrum alone, where the fault names inputs only
-  pub stuck-inputs : (k : ℕ) → Named n k → OfInputs n (faultAt n k)
+  pub stuck-inputs : (k : ℕ) → CircuitFault n k → OfInputs (n .inputs) (faultAt n k)
       → stuckSpectrumOf (stuckOf (stuckLines (faultAt n k)) (stuckValues (faultAt n k))) (circuitSpectrum text 0) ≡ circuitSpectrum text k
   -- from the spectrum of the circuit with the fault's lines opened
-  pub opened-lines : (k : ℕ) → Named n k → openedSpectrumOf (spectrumOf (openedCircuitRows n (faultAt n k))) (stuckValues (faultAt n k)) ≡ circuitSpectrum text k
+  pub opened-lines : (k : ℕ) → CircuitFault n k → openedSpectrumOf (spectrumOf (openedCircuitRows n (faultAt n k))) (stuckValues (faultAt n k)) ≡ circuitSpectrum text k
+
+-- the table that an accepted text states, sound (0) and under each of its faults: "Under a fault a row takes the mark of the row with its stuck inputs replaced."
+pub record TablesRight (text : List ℕ) (t : TruthTable) : Type 0 where
+  pub rows : (k x : ℕ) → x < 2 ^ t .inputs → nth (tableRows t (tableFaultAt t k)) x ≡ pos (getD (t .marks) (faultRow (tableFaultAt t k) x) 0)
+  pub sound-rows : (x : ℕ) → x < 2 ^ t .inputs → nth (tableRows t sound) x ≡ pos (getD (t .marks) x 0)
+  pub spectrum : (k : ℕ) → k ≤ length (t .faults) → circuitSpectrum text k ≡ spectrumOf (tableRows t (tableFaultAt t k))
+  -- eq. 11 and 12, doubled: twice the ones of even parity plus the free rows of even parity, less the same of odd parity
+  pub free-rows : (k label : ℕ) → let f = tableFaultAt t k in
+      coefficientOf (tableRows t f) label ≡ pos (2 * onesWith t f 0 label + freeWith t f 0 label) -ℤ pos (2 * onesWith t f 1 label + freeWith t f 1 label)
+  -- from the sound spectrum alone, under every fault
+  pub stuck-inputs : (k : ℕ) → TableFault t k
+      → stuckSpectrumOf (stuckOf (stuckLines (tableFaultAt t k)) (stuckValues (tableFaultAt t k))) (circuitSpectrum text 0) ≡ circuitSpectrum text k
+  pub stuck-answer : (k room : ℕ) → TableFault t k
+      → stuckAnswer (circuitSpectrum text 0) (stuckLines (tableFaultAt t k)) (stuckValues (tableFaultAt t k)) room ≡ circuitAnswer text k room
 
 -- "rows that agree" with the values at the inputs of the mask, the whole sum of their values, and their count
 pub record ReadingsRight (text : List ℕ) (n : Netlist) (mask values : ℕ) : Type 0 where
@@ -83,6 +101,7 @@ pub record DemandTwo : Type 0 where
   pub spectra : SpectraRight
   pub faults : FaultySpectraRight
   pub circuits : (text : List ℕ) (n : Netlist) → parseOf text ≡ accepted n → CircuitsRight text n
+  pub tables : (text : List ℕ) (t : TruthTable) → tableOf text ≡ acceptedTable t → TablesRight text t
   pub readings : (text : List ℕ) (n : Netlist) (mask values : ℕ) → parseOf text ≡ accepted n → ReadingsRight text n mask values
   pub cases : (text : List ℕ) (n : Netlist) (mask values : ℕ) → parseOf text ≡ accepted n → readingNumber (readingAnswer text mask values) ≡ 0 → CaseRight n mask (readingAnswer text mask values)
   -- "Each value times the count gives the whole sum again"

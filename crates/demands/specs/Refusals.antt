@@ -12,6 +12,8 @@ use Rattle.transform.specs.Spectrum.{coefficientOf}
 use Rattle.faults.specs.Arguments.{StuckArguments, OpenedArguments}
 use Rattle.faults.specs.Faults.{keptInputs, openedSumAt}
 use Rattle.netlist.specs.Circuits.{Netlist}
+use Rattle.tables.specs.Tables.{TruthTable}
+use Rattle.devices.specs.Problems.{Problem}
 use Rattle.planner.specs.Demand.{Named, Possible, Silent}
 use Rattle.demands.specs.Tests.{NoRefusal, RefusedIf, AtNone}
 
@@ -64,20 +66,20 @@ OpenedTests c values room =
     ListTests 2048000 (OpenedArguments (inputsOf (length c)) values) c room (2 ^ keptInputs c values)
     (RefusedIf 11 (FirstOf (2 ^ keptInputs c values) (UndividedAt c values)) NoRefusal)
 
--- Texts: the tests on an accepted circuit
+-- Texts: the tests on what an accepted text states
 
 -- "0 for the sound circuit, else 1 to Q, otherwise 12"
-abbrev pub CircuitTests : ℕ → ℕ → Netlist → ℕ → ℕ → Type 0
-CircuitTests fault room n = RefusedIf 12 (AtNone (length (n .faults) < fault)) (RefusedIf 8 (AtNone (room < 2 ^ n .inputs)) NoRefusal)
+abbrev pub CircuitTests : ℕ → ℕ → Problem → ℕ → ℕ → Type 0
+CircuitTests fault room p = RefusedIf 12 (AtNone (length (p .faulted) < fault)) (RefusedIf 8 (AtNone (room < 2 ^ p .inputs)) NoRefusal)
 
 -- 13: "the first silent fault"
-pub record FirstSilentFault (n : Netlist) (place : ℕ) : Type 0 where
-  pub named : Named n place
-  pub silent : Silent n place
-  pub none-earlier : (f : ℕ) → 1 ≤ f → f < place → Silent n f → ⊥
+pub record FirstSilentFault (p : Problem) (place : ℕ) : Type 0 where
+  pub named : Named p place
+  pub silent : Silent p place
+  pub none-earlier : (f : ℕ) → 1 ≤ f → f < place → Silent p f → ⊥
 
-abbrev pub PlanTests : ℕ → Netlist → ℕ → ℕ → Type 0
-PlanTests work n = RefusedIf 8 (AtNone (work < 4608)) (RefusedIf 13 (FirstSilentFault n) (RefusedIf 14 (AtNone (Possible n → ⊥)) NoRefusal))
+abbrev pub PlanTests : ℕ → Problem → ℕ → ℕ → Type 0
+PlanTests work p = RefusedIf 8 (AtNone (work < 4608)) (RefusedIf 13 (FirstSilentFault p) (RefusedIf 14 (AtNone (Possible p → ⊥)) NoRefusal))
 
 -- "12 unless the mask is below 2^N and values lie within it"
 abbrev pub FixesInputs : Netlist → ℕ → ℕ → Type 0
@@ -86,6 +88,14 @@ FixesInputs n mask values = (mask < 2 ^ n .inputs) × (bitAnd values mask ≡ va
 abbrev pub ReadingTests : ℕ → ℕ → Netlist → ℕ → ℕ → Type 0
 ReadingTests mask values n = RefusedIf 12 (AtNone (FixesInputs n mask values → ⊥)) NoRefusal
 
+-- the fault's number is one of the circuit's
+abbrev pub CircuitFault : Netlist → ℕ → Type 0
+CircuitFault n f = (1 ≤ f) × (f ≤ length (n .faults))
+
+-- or the table's
+abbrev pub TableFault : TruthTable → ℕ → Type 0
+TableFault t f = (1 ≤ f) × (f ≤ length (t .faults))
+
 -- "given a fault number too (12 unless 1 to Q)"
 abbrev pub PairTests : ℕ → ℕ → ℕ → Netlist → ℕ → ℕ → Type 0
-PairTests fault mask values n = RefusedIf 12 (AtNone (FixesInputs n mask values × Named n fault → ⊥)) NoRefusal
+PairTests fault mask values n = RefusedIf 12 (AtNone (FixesInputs n mask values × CircuitFault n fault → ⊥)) NoRefusal

@@ -7,6 +7,8 @@ use mathlib.Core.Logic.{_⊎_}
 use mathlib.Core.Path.{_≡_}
 use Rattle.netlist.specs.Circuits.{Netlist}
 use Rattle.netlist.specs.Parsing.{accepted, rejected, parseOf}
+use Rattle.devices.specs.Describing.{described, refusedAt, descriptionOf}
+use Rattle.devices.specs.Problems.{Problem}
 
 -- no test is left
 abbrev pub NoRefusal : ℕ → ℕ → Type 0
@@ -21,6 +23,10 @@ pub data RefusedIf (refusal : ℕ) (fails : ℕ → Type 0) (next : ℕ → ℕ 
 abbrev pub AtNone : Type 0 → ℕ → Type 0
 AtNone fails place = fails × (place ≡ 0)
 
--- the text's own refusal goes first, then the tests on the circuit that it states
+-- a call on texts of every kind: the text's own refusal goes first, then the tests on the problem that it states
+abbrev pub OnDevice : List ℕ → (Problem → ℕ → ℕ → Type 0) → ℕ → ℕ → Type 0
+OnDevice text tests number place = (descriptionOf text ≡ refusedAt number place) ⊎ ((p : Problem) × (descriptionOf text ≡ described p) × tests p number place)
+
+-- a call on circuit texts: the text's own refusal goes first, then the tests on the circuit that it states
 abbrev pub OnText : List ℕ → (Netlist → ℕ → ℕ → Type 0) → ℕ → ℕ → Type 0
 OnText text tests number place = (parseOf text ≡ rejected number place) ⊎ ((n : Netlist) × (parseOf text ≡ accepted n) × tests n number place)

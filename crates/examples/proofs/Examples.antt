@@ -30,6 +30,10 @@ use Rattle.search.specs.Sets.{setsOf, firstOf, planFrom, planOf}
 use Rattle.cover.specs.Cover.{covers, coversFault, coversAll, sameAt, silent, silentAt, firstSilent, signatureOf}
 use Rattle.fixture.specs.ReadingCall.{fixesInputs, someAboveOne, isWeighted, faultMean, readingAnswer, unread, pairNumbers, namesFault, pairAnswer}
 use Rattle.planner.specs.PlanCall.{silentFirst, verdictOf, planVerdict, planAnswer}
+use Rattle.tables.specs.TableLines.{isTable}
+use Rattle.devices.specs.Describing.{descriptionOf}
+use Rattle.devices.specs.Devices.{circuitProblem}
+use Rattle.devices.specs.Problems.{problemFrom}
 use Rattle.circuit.specs.CircuitCall.{roomAnswer, faultAnswer, circuitAnswer, faultSpectrum, circuitSpectrum}
 use Rattle.report_lines.specs.ReportLines.{planLine, refusedLine, labelLine, labelCovers, coveringLabel, faultReportLine, planLines}
 use Rattle.report.specs.ReportCall.{reportOf, short, reportAnswer, reportLeft}
@@ -38,6 +42,6 @@ use Rattle.examples.specs.Texts.{textOfLines, productOrInputText, gatedT
 use Rattle.examples.specs.Table.{decimal, Holds, Every, table}
 
 pub examples-hold : Every Holds table
-unfolding table figure productOrInput selected gated gatedOpened isOneOf tab sumTo firstFrom firstWhere ones termOf signedSum coefficientOf spectrumOf inputsTo inputsOf outside outsideAt firstOutside screenOf foundOf spectrumAnswer unfit unfitAt firstUnfit dividedAnswer quotientAt quotientsOf inverseRows rowsAnswer stuckOf names subsetSum stuckCoefficientAt stuckSpectrumOf risingInputs binary fewOf stuckRight stuckAnswer openedRight linesAfter openedSumAt openedAt openedSpectrumOf undividedAt firstUndivided undividedAnswer openedAnswer replacedAll stuckRow stuckRows openedRowNumber openedRow openedRows indexOf before after fieldOf fieldCount sameBytes digits decimalFrom wellFormed numberOf valueAt numbersFrom isLine inRange fits isHead headFits headRefusal headOf isKind kindOf isGate secondFits gateFits readsBelow gateRefusal gateOf isOutput outputFits outputRefusal outputOf isFault pairInRange pairFits faultFits linesExist risesAt linesRise faultRefusal pairAt faultOf linesOf gatesIn outputsIn faultsIn endOf bodyOf parseOf gateValue stuckOr shown inputValues gateNext gatesNext lineValues rowValue rowsOf roomAnswer faultAnswer circuitAnswer faultSpectrum circuitSpectrum textOfLines productOrInputText gatedText listing listingReport silentText silentReport pairText andOrText xorNotText decimalTo decimalOf integerOf gather numberField numbersOf lineOf keep count withOnes byOnes order below labelsBelow setsOf firstOf planFrom planOf any allBelow covers coversFault coversAll sameAt silent silentAt firstSilent signatureOf silentFirst verdictOf planVerdict planAnswer planLine refusedLine labelLine labelCovers coveringLabel faultReportLine planLines reportOf short reportAnswer reportLeft xor decimal halfAndOneText fixesInputs someAboveOne isWeighted faultMean readingAnswer unread pairNumbers namesFault pairAnswer agrees countTo countOf wholeSum quotient meanOf caseOf pairOf trailingZeros span climb size odd units round neg sum add sub div ofInt unless
+unfolding table figure productOrInput selected gated gatedOpened isOneOf tab sumTo firstFrom firstWhere ones termOf signedSum coefficientOf spectrumOf inputsTo inputsOf outside outsideAt firstOutside screenOf foundOf spectrumAnswer unfit unfitAt firstUnfit dividedAnswer quotientAt quotientsOf inverseRows rowsAnswer stuckOf names subsetSum stuckCoefficientAt stuckSpectrumOf risingInputs binary fewOf stuckRight stuckAnswer openedRight linesAfter openedSumAt openedAt openedSpectrumOf undividedAt firstUndivided undividedAnswer openedAnswer replacedAll stuckRow stuckRows openedRowNumber openedRow openedRows indexOf before after fieldOf fieldCount sameBytes digits decimalFrom wellFormed numberOf valueAt numbersFrom isLine inRange fits isHead headFits headRefusal headOf isKind kindOf isGate secondFits gateFits readsBelow gateRefusal gateOf isOutput outputFits outputRefusal outputOf isFault pairInRange pairFits faultFits linesExist risesAt linesRise faultRefusal pairAt faultOf linesOf gatesIn outputsIn faultsIn endOf bodyOf parseOf gateValue stuckOr shown inputValues gateNext gatesNext lineValues rowValue rowsOf roomAnswer faultAnswer circuitAnswer faultSpectrum circuitSpectrum textOfLines productOrInputText gatedText listing listingReport silentText silentReport pairText andOrText xorNotText decimalTo decimalOf integerOf gather numberField numbersOf lineOf keep count withOnes byOnes order below labelsBelow setsOf firstOf planFrom planOf any allBelow covers coversFault coversAll sameAt silent silentAt firstSilent signatureOf silentFirst verdictOf planVerdict planAnswer planLine refusedLine labelLine labelCovers coveringLabel faultReportLine planLines reportOf short reportAnswer reportLeft xor decimal halfAndOneText fixesInputs someAboveOne isWeighted faultMean readingAnswer unread pairNumbers namesFault pairAnswer agrees countTo countOf wholeSum quotient meanOf caseOf pairOf trailingZeros span climb size odd units round neg sum add sub div ofInt unless problemFrom circuitProblem descriptionOf isTable
 examples-hold =
     ((refl, refl), (refl, ((refl, refl), ((refl, refl), ((refl, refl), ((refl, refl), ((refl, refl), (refl, ((refl, refl), ((refl, refl), ((refl, refl), ((refl, refl), (refl, (refl, ((refl, refl), ((refl, refl), (refl, (refl, (refl, (refl, (refl, (refl, (refl, (refl, (refl, (refl, (refl, (refl, (refl, (refl, ((refl, refl), (refl, ((refl, refl), (refl, (refl, (refl, (refl, (refl, (refl, (refl, (refl, (refl, (refl, (refl, (refl, (refl, (refl, tt)))))))))))))))))))))))))))))))))))))))))))))))

@@ -1,2 +1,3 @@
 pub mod CircuitTexts
 pub mod Examples
+pub mod Notes

@@ -1,3 +1,5 @@
 pub mod Functions
 pub mod Table
 pub mod Texts
+pub mod Notes
+pub mod TableTexts

@@ -1,7 +1,7 @@
 -- One stuck input, as a loop that counts up writes it in place, and all of them, by a loop that counts down:
 --   stuck-to, stuck-start, stuck-end    the list when i numbers are new, at the start and at the end
 --   length-stuck-to                     its length
---   read-ahead, turn                    a turn reads numbers that are as they came, and writes one
+--   read-ahead, stick-turn              a turn reads numbers that are as they came, and writes one
 --   once-joined, once-named             the number that a turn writes
 --   partner-below                       the label that adds the input
 --   stuck-from, from-none               the list when the lines from i on are stuck, at the start

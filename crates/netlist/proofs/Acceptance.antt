@@ -4,14 +4,14 @@
 --   accepted-as, accepted-right    the circuit of the parser's answer
 --   head-fits, gate-right, output-right    what the tests of each line show
 use mathlib.Core.Path.{_≡_, refl, sym, ap, _∙_, subst}
-use mathlib.Core.Bool.{Bool, true, false, cond, _&&_, false≢true}
+use mathlib.Core.Bool.{Bool, true, false, _&&_, false≢true}
 use mathlib.Core.List.{List, [], _∷_}
 use Prim.Native.Nat.{ℕ, _+_, _≤_}
 use native.Mathlib.Omega.{arith}
-use lib.Dec.{eqb, leb, ltb, lit≤}
+use lib.Dec.{leb, ltb, lit≤}
 use lib.ListN.{length}
 use borrow.Author.Tests.{ltb-true, leb-true, eqb-true, eq-eqb, lt-ltb}
-use Rattle.text.specs.Text.{textBytes, before, after, hasByte, lineEnd, fieldOf}
+use Rattle.text.specs.Text.{before, after, hasByte, lineEnd, fieldOf}
 use Rattle.integer.proofs.Bools.{both}
 use Rattle.statements.specs.Items.{noGate, noOutput, sound}
 use Rattle.fields.specs.Fields.{valueAt, fits}
@@ -26,6 +26,7 @@ use Rattle.statements.specs.declared.Output.{Output}
 use Rattle.fields.proofs.Chains.{unless-passed}
 use Rattle.fields.proofs.PlainLines.{range, fits-range}
 use Rattle.sections.proofs.FaultsRight.{fault-right}
+use Rattle.sections.proofs.LinesDue.{text-answered}
 use Rattle.sections.proofs.LinesRead.{lines-said}
 use Rattle.sections.specs.Sections.{Read, items, lineRefused, lineRefusal}
 use Rattle.sections.specs.FaultLines.{nthFaultRefusal}
@@ -171,19 +172,15 @@ body-right h right rest n b =
 pub text-read-through : (text : List ℕ) (n : Netlist) → parseOf text ≡ accepted n
     → (lineRefusal headRefusal text ≡ 0) × BodyRead (headOf (before lineEnd text)) (after lineEnd text) n
 unfolding parseOf
-text-read-through text n e = go (ltb textBytes (length text)) (eqb number 0) refl e
+text-read-through text n =
+    text-answered (λ r. r ≡ accepted n → (number ≡ 0) × BodyRead head (after lineEnd text) n) number text (λ b. never 1 0 n) (λ few z q. (z, body-read-through head (after lineEnd text) n q))
+    (λ few s. never number 1 n)
   where
     head : Head
     head = headOf (before lineEnd text)
 
     number : ℕ
     number = lineRefusal headRefusal text
-
-    go : (s t : Bool) → eqb number 0 ≡ t → cond s (rejected 1 0) (cond t (bodyOf head (after lineEnd text)) (rejected number 1)) ≡ accepted n
-        → (number ≡ 0) × BodyRead head (after lineEnd text) n
-    go true t z q = never 1 0 n q
-    go false false z q = never number 1 n q
-    go false true z q = (eqb-true number 0 z, body-read-through head (after lineEnd text) n q)
 
 pub well-formed : (text : List ℕ) (n : Netlist) → parseOf text ≡ accepted n → WellFormed n
 well-formed text n e = let t = text-read-through text n e in body-right (headOf (before lineEnd text)) (head-fits (before lineEnd text) (unless-passed (hasByte lineEnd text) 2 _ (lit≤ tt) (t .0) .1)) (after lineEnd text) n (t .1)

@@ -8,11 +8,11 @@ use mathlib.Core.List.{List, [], _∷_}
 use mathlib.Core.Logic.{_↔_, _⊎_, inl, inr, ⊎-elim}
 use Prim.Native.Nat.{ℕ, _+_, _-_, _<_, _≤_}
 use native.Mathlib.Decide.{decLe}
-use native.Mathlib.Nat.{zero-add, lt-of-not-le}
+use native.Mathlib.Nat.{lt-of-not-le}
 use native.Mathlib.Omega.{arith}
-use lib.Dec.{eqb, ltb, lit≤, leb}
+use lib.Dec.{eqb, lit≤, leb}
 use lib.ListN.{length}
-use borrow.Author.Tests.{ltb-true, ltb-false, eqb-true, lt-ltb, ne-eqb, le-leb, lt-leb}
+use borrow.Author.Tests.{lt-ltb, ne-eqb, le-leb, lt-leb}
 use Rattle.text.specs.Text.{textBytes, before, after, hasByte, lineEnd}
 use Rattle.fields.specs.Fields.{unless}
 use Rattle.statements.specs.Lines.{headRefusal, gateRefusal, gateOf, outputRefusal, outputOf, faultOf, faultRefusal}
@@ -20,11 +20,11 @@ use Rattle.statements.specs.declared.Fault.{Fault}
 use Rattle.statements.specs.declared.Gate.{Gate}
 use Rattle.statements.specs.declared.Head.{Head}
 use Rattle.statements.specs.declared.Output.{Output}
-use Rattle.sections.specs.Sections.{Read, items, lineRefused, lineRefusal, linesFrom, linesOf}
+use Rattle.sections.specs.Sections.{lineRefusal, linesFrom, linesOf}
 use Rattle.sections.specs.FaultLines.{nthFaultRefusal}
-use Rattle.fields.proofs.Chains.{LineNumber, numbered, not-zero}
+use Rattle.fields.proofs.Chains.{LineNumber, not-zero}
 use Rattle.statements.proofs.LineNumbers.{head-number, gate-number, output-number, fault-number}
-use Rattle.sections.proofs.LinesRead.{lines-further, lines-passed, lines-stopped}
+use Rattle.sections.proofs.LinesDue.{dueAt, DuePassing, FirstRefused, due-own, refused-next, due-read, refused-pass, refused-once, text-answered}
 use Rattle.netlist.specs.Circuits.{Netlist}
 use Rattle.netlist.specs.Parsing.{gatesIn, outputsIn, faultsIn, Parse, accepted, rejected, onRead, endOf, bodyOf, parseOf, nthGateRefusal, nthOutputRefusal}
 use Rattle.netlist.specs.Places.{textHead, linesDue, dueRefusal, refusalAt, LineFails, DuePass, afterDue, BytesFollow, NoneApplies}
@@ -44,11 +44,12 @@ due-number h k l = go (eqb k 0) (leb k (h .gates)) (leb k (h .gates + h .outputs
     go false false true = output-number (h .inputs + h .gates) l
     go false false false = fault-number (h .inputs + h .gates) l
 
-number-at : (text : List ℕ) (k : ℕ) → LineNumber (refusalAt text k)
-unfolding refusalAt
-number-at text k =
-    numbered (hasByte lineEnd (linesFrom k text)) 2 (dueRefusal (textHead text) k (before lineEnd (linesFrom k text))) (lit≤ tt) (lit≤ tt)
-    (due-number (textHead text) k (before lineEnd (linesFrom k text)))
+-- the number of the text's line with k lines before it
+abbrev at : List ℕ → ℕ → ℕ
+at text = dueAt (dueRefusal (textHead text)) text
+
+number-at : (text : List ℕ) (k : ℕ) → LineNumber (at text k)
+number-at text k = due-own (dueRefusal (textHead text)) text LineNumber k (inr (lit≤ tt, lit≤ tt)) (due-number (textHead text) k)
 
 module _ (h : Head) (j : ℕ) (l : List ℕ) where
   gate-due : j < h .gates → dueRefusal h (1 + j) l ≡ nthGateRefusal (h .inputs) j l
@@ -79,65 +80,46 @@ Means text (rejected number place) = ((number ≡ 1) × (place ≡ 0) × (textBy
 
 -- the first `count` lines pass
 abbrev Passing : List ℕ → ℕ → Type 0
-Passing text count = (k : ℕ) → k < count → refusalAt text k ≡ 0
+Passing text = DuePassing (dueRefusal (textHead text)) text
+
+abbrev Refused : List ℕ → ℕ → ℕ → Type 0
+Refused text = FirstRefused (dueRefusal (textHead text)) text (linesDue (textHead text))
+
+-- the first refused line, as `Places` says it
+module _ {text : List ℕ} {number place : ℕ} where
+  line-fails : length text ≤ textBytes → Refused text number place → LineFails text number place
+  unfolding refusalAt
+  line-fails few f =
+      let n = not-zero number (subst LineNumber (f .refused) (number-at text (place - 1))) (ne-eqb number 0 (f .some)) in
+      record { few = few; number-low = n .0; number-high = n .1; place-low = f .place-low; place-due = f .place-due; refused = f .refused; earlier-pass = f .earlier-pass }
+
+  fails-line : LineFails text number place → Refused text number place
+  unfolding refusalAt
+  fails-line f =
+      record { place-low = f .place-low; place-due = f .place-due; refused = f .refused; some = λ z. omega (arith, f .number-low, z); earlier-pass = f .earlier-pass }
 
 module _ (text : List ℕ) (few : length text ≤ textBytes) where
   abbrev h : Head
   h = textHead text
 
   -- `count` lines of one kind after m lines that pass: a refusal among them, or what comes after them
-  module _ {A : Type 0} (refusal : ℕ → List ℕ → ℕ) (item : List ℕ → A) (m count low : ℕ) (within : m + count ≤ linesDue h) (low-is : low ≡ m + 1)
-      (due : (j : ℕ) (l : List ℕ) → j < count → dueRefusal h (m + j) l ≡ refusal j l) where
-    module _ (rest : List ℕ) (rest-is : rest ≡ linesFrom m text) (passing : Passing text m) where
-      at : (j : ℕ) → j < count → refusalAt text (m + j) ≡ lineRefusal (refusal (0 + j)) (linesFrom j rest)
-      unfolding refusalAt
-      at j k =
-          let e : linesFrom (m + j) text ≡ linesFrom j rest = sym (lines-further m j text) ∙ ap (linesFrom j) (sym rest-is) in
-          ap (λ (r : List ℕ). lineRefusal (dueRefusal h (m + j)) r) e
-          ∙ ap (unless (hasByte lineEnd (linesFrom j rest)) 2) (due j (before lineEnd (linesFrom j rest)) k ∙ ap (λ (i : ℕ). refusal i (before lineEnd (linesFrom j rest))) (sym (zero-add j)))
-
-      -- the first `lines` of them pass too
-      further : (lines : ℕ) → lines ≤ count → ((j : ℕ) → j < lines → lineRefusal (refusal (0 + j)) (linesFrom j rest) ≡ 0) → Passing text (m + lines)
-      further lines most p k b = go (decLe m k)
-        where
-          go : Dec (m ≤ k) → refusalAt text k ≡ 0
-          go (yes a) = let e : k ≡ m + (k - m) = omega arith in ap (refusalAt text) e ∙ at (k - m) (omega arith) ∙ p (k - m) (omega arith)
-          go (no a) = passing k (lt-of-not-le a)
-
-      stage : (next : List A → List ℕ → Parse) → ((l : List A) (end : List ℕ) → end ≡ linesFrom (m + count) text → Passing text (m + count) → Means text (next l end))
-          → Means text (onRead (linesOf refusal item count low rest []) next)
-      stage next later-lines = go (linesOf refusal item count low rest []) refl
-        where
-          go : (r : Read A) → linesOf refusal item count low rest [] ≡ r → Means text (onRead r next)
-          go (items l end) x =
-              let p = lines-passed refusal item count low rest [] l end x in
-              later-lines l end (p .end-is ∙ ap (linesFrom count) rest-is ∙ lines-further m count text) (further count (omega arith) (p .passing))
-          go (lineRefused number place) x =
-              let s = lines-stopped refusal item number place count low rest [] x in
-              let i : place - 1 ≡ m + s .lines = omega (arith, s .place-is) in
-              let is : refusalAt text (place - 1) ≡ number = ap (refusalAt text) i ∙ at (s .lines) (s .within) ∙ s .refused in
-              let n = not-zero number (subst LineNumber is (number-at text (place - 1))) (ne-eqb number 0 (s .some)) in
-              inr (inl record {
-                few = few;
-                number-low = n .0;
-                number-high = n .1;
-                place-low = omega (arith, s .place-is);
-                place-due = omega (arith, s .place-is, s .within);
-                refused = is;
-                earlier-pass = λ k b. further (s .lines) (omega (arith, s .within)) (s .passing) k (omega (arith, i));
-              })
+  stage : {A : Type 0} (refusal : ℕ → List ℕ → ℕ) (item : List ℕ → A) (m count low : ℕ) → m + count ≤ linesDue h → low ≡ m + 1
+      → ((j : ℕ) (l : List ℕ) → j < count → dueRefusal h (m + j) l ≡ refusal j l) → (rest : List ℕ) → rest ≡ linesFrom m text → Passing text m → (next : List A → List ℕ → Parse)
+      → ((l : List A) (end : List ℕ) → end ≡ linesFrom (m + count) text → Passing text (m + count) → Means text (next l end)) → Means text (onRead (linesOf refusal item count low rest []) next)
+  stage refusal item m count low within low-is same rest rest-is passing next =
+      due-read (dueRefusal h) text refusal item m count low within low-is same rest rest-is passing (λ r. Means text (onRead r next)) (λ number place f. inr (inl (line-fails few f)))
 
   ended : (gates : List Gate) (outputs : List Output) (faults : List Fault) (rest : List ℕ) → rest ≡ afterDue text → Passing text (linesDue h) → Means text (endOf h gates outputs faults rest)
-  unfolding endOf
+  unfolding endOf refusalAt
   ended gates outputs faults [] e p = record { pass = record { few = few; each = p }; all = sym e }
   ended gates outputs faults (x ∷ rest) e p =
       rw (lt-ltb 0 (length (x ∷ rest)) (omega arith))
       (inr (inr (refl, record { pass = record { few = few; each = p }; bytes = subst (λ (l : List ℕ). 0 < length l) e (omega arith); place-is = omega arith })))
 
-  in-body : refusalAt text 0 ≡ 0 → Means text (bodyOf h (after lineEnd text))
+  in-body : at text 0 ≡ 0 → Means text (bodyOf h (after lineEnd text))
   unfolding bodyOf gatesIn outputsIn faultsIn linesFrom
   in-body first =
-      stage (nthGateRefusal (h .inputs)) gateOf 1 (h .gates) 2 (omega arith) (lit≡) (λ j l. gate-due h j l) (after lineEnd text) refl (λ k b. ap (refusalAt text) (none k b) ∙ first)
+      stage (nthGateRefusal (h .inputs)) gateOf 1 (h .gates) 2 (omega arith) (lit≡) (λ j l. gate-due h j l) (after lineEnd text) refl (λ k b. ap (at text) (none k b) ∙ first)
       (λ gates r. onRead (outputsIn h r) (λ outputs r. onRead (faultsIn h r) (endOf h gates outputs)))
       (λ gates r e p.
       stage (nthOutputRefusal (h .inputs + h .gates)) outputOf (1 + h .gates) (h .outputs) (h .gates + 2) (omega arith) (omega arith) (λ j l. output-due h j l) r e p
@@ -153,45 +135,25 @@ module _ (text : List ℕ) (few : length text ≤ textBytes) where
       lit≡ : 2 ≡ 1 + 1
       lit≡ = omega arith
 
-head-at : (text : List ℕ) → refusalAt text 0 ≡ lineRefusal headRefusal text
-unfolding refusalAt dueRefusal linesFrom
+head-at : (text : List ℕ) → at text 0 ≡ lineRefusal headRefusal text
+unfolding dueRefusal linesFrom
 head-at text = refl
 
 parse-means : (text : List ℕ) → Means text (parseOf text)
 unfolding parseOf
-parse-means text = size (ltb textBytes (length text)) refl
-  where
-    line : ℕ
-    line = lineRefusal headRefusal text
-
-    first : length text ≤ textBytes → (t : Bool) → eqb line 0 ≡ t → Means text (cond t (bodyOf (textHead text) (after lineEnd text)) (rejected line 1))
-    first few true z = in-body text few (head-at text ∙ eqb-true line 0 z)
-    first few false z =
-        let n = not-zero line (subst LineNumber (head-at text) (number-at text 0)) z in
-        inr (inl record { few = few; number-low = n .0; number-high = n .1; place-low = lit≤ tt; place-due = omega arith; refused = head-at text; earlier-pass = λ k b. absurd (omega arith) })
-
-    size : (t : Bool) → ltb textBytes (length text) ≡ t → Means text (cond t (rejected 1 0) (cond (eqb line 0) (bodyOf (textHead text) (after lineEnd text)) (rejected line 1)))
-    size true b = inl (refl, refl, ltb-true textBytes (length text) b)
-    size false b = first (ltb-false textBytes (length text) b) (eqb line 0) refl
+parse-means text =
+    text-answered (Means text) (lineRefusal headRefusal text) text (λ b. inl (refl, refl, b)) (λ few z. in-body text few (head-at text ∙ z))
+    (λ few s. inr (inl (line-fails few (refused-next (dueRefusal (textHead text)) text 0 (lineRefusal headRefusal text) 1 (omega arith) (omega arith) (head-at text) s (λ k b. absurd (omega arith))))))
 
 -- no text has two of these answers
 
 module _ (text : List ℕ) where
   fails-pass : {X : Type 0} (number place : ℕ) → LineFails text number place → DuePass text → X
-  fails-pass number place f p = absurd (omega (arith, f .number-low, sym (f .refused) ∙ p .each (place - 1) (omega (arith, f .place-low, f .place-due))))
-
-  fails-later : {X : Type 0} (number place other later : ℕ) → LineFails text number place → LineFails text other later → place - 1 < later - 1 → X
-  fails-later number place other later f g b = absurd (omega (arith, f .number-low, sym (f .refused) ∙ g .earlier-pass (place - 1) b))
+  unfolding refusalAt
+  fails-pass number place f p = refused-pass (dueRefusal (textHead text)) text (fails-line f) (p .each)
 
   fails-once : (number place other later : ℕ) → LineFails text number place → LineFails text other later → rejected other later ≡ rejected number place
-  fails-once number place other later f g = go (decLe place later) (decLe later place)
-    where
-      go : Dec (place ≤ later) → Dec (later ≤ place) → rejected other later ≡ rejected number place
-      go (yes a) (yes b) =
-          let e : later ≡ place = omega arith in
-          ap₂ rejected (sym (g .refused) ∙ ap (λ (k : ℕ). refusalAt text (k - 1)) e ∙ f .refused) e
-      go (no a) b = fails-later other later number place g f (omega (arith, lt-of-not-le a, g .place-low))
-      go (yes a) (no b) = fails-later number place other later f g (omega (arith, lt-of-not-le b, f .place-low))
+  fails-once number place other later f g = let e = refused-once (dueRefusal (textHead text)) text (fails-line f) (fails-line g) in ap₂ rejected (e .0) (e .1)
 
   pub one-exactly : (parseOf text ≡ rejected 1 0) ↔ (textBytes < length text)
   one-exactly = (there, too-long text)
@@ -256,7 +218,7 @@ pub record OfLine (number place : ℕ) : Type 0 where
   pub place-high : place ≤ 86
 
 few-due : (text : List ℕ) → refusalAt text 0 ≡ 0 → linesDue (textHead text) ≤ 85
-unfolding unless
+unfolding unless refusalAt
 few-due text e = go (hasByte lineEnd text) (sym (head-at text) ∙ e)
   where
     go : (b : Bool) → unless b 2 (headRefusal (before lineEnd text)) ≡ 0 → linesDue (textHead text) ≤ 85

@@ -3,28 +3,19 @@
 --   the set's size, and label places past it hold 0 .. What the 4,608 numbers hold afterwards is free; later ones are untouched."
 --   "Calls on text then test 12, 8, 13, 14." "A refusal writes nothing, except that 13 and 14 may have used the working numbers." "Sizes, labels
 --   and readings returned with a refusal are 0."
+-- and document 02, note 1: "the circuit, plan and report calls take tables"; a table is planned over its doubled rows.
 use Prim.Native.Nat.{ℕ, suc}
 use mathlib.Core.Bool.{Bool, false, cond, _||_}
-use mathlib.Core.List.{List, [], map}
+use mathlib.Core.List.{List, []}
 use mathlib.Core.Option.{Option, none, some}
 use mathlib.Core.Path.{_≡_}
 use lib.Dec.{eqb, ltb}
-use lib.IntN.{ℤ}
 use lib.ListN.{length, drop}
 use Rattle.cover.specs.Cover.{firstSilent, signatureOf}
 use Rattle.search.specs.Sets.{fourOf}
-use Rattle.netlist.specs.Circuits.{Netlist}
-use Rattle.netlist.specs.Parsing.{onParse, parseOf}
-use Rattle.simulation.specs.Rows.{rowsOf}
-use Rattle.statements.specs.Items.{sound}
+use Rattle.devices.specs.Describing.{onDescription, descriptionOf}
+use Rattle.devices.specs.Problems.{Problem}
 use Rattle.planner.specs.declared.Planned.{Planned}
-
-abbrev pub soundRows : Netlist → List ℤ
-soundRows n = rowsOf n sound
-
--- the rows under each fault of the text
-abbrev pub faultedRows : Netlist → List (List ℤ)
-faultedRows n = map (rowsOf n) (n .faults)
 
 -- a refusal's number and place, or the plan's labels
 pub data Verdict : Type 0 where
@@ -36,25 +27,25 @@ abbrev pub searched : Option (List ℕ) → Verdict
 searched none = refused 14 0
 searched (some labels) = planned labels
 
-unfoldable pub silentFirst : Netlist → ℕ
-silentFirst n = firstSilent (soundRows n) (faultedRows n)
+unfoldable pub silentFirst : Problem → ℕ
+silentFirst p = firstSilent (p .sound) (p .faulted)
 
 -- 13 with the first silent fault, from 1, goes first
-unfoldable pub verdictOf : Netlist → Verdict
-verdictOf n =
-    cond (ltb (silentFirst n) (length (n .faults))) (refused 13 (suc (silentFirst n)))
-    (searched (signatureOf (soundRows n) (faultedRows n) (n .cap)))
+unfoldable pub verdictOf : Problem → Verdict
+verdictOf p =
+    cond (ltb (silentFirst p) (length (p .faulted))) (refused 13 (suc (silentFirst p)))
+    (searched (signatureOf (p .sound) (p .faulted) (p .cap)))
 
 abbrev pub workingNumbers : ℕ
 workingNumbers = 4608
 
 -- 8 unless there are enough working numbers
-abbrev pub circuitVerdict : ℕ → Netlist → Verdict
-circuitVerdict work n = cond (ltb work workingNumbers) (refused 8 0) (verdictOf n)
+abbrev pub problemVerdict : ℕ → Problem → Verdict
+problemVerdict work p = cond (ltb work workingNumbers) (refused 8 0) (verdictOf p)
 
 -- the text's own refusals go first
 unfoldable pub planVerdict : List ℕ → ℕ → Verdict
-planVerdict text work = onParse (circuitVerdict work) refused (parseOf text)
+planVerdict text work = onDescription (problemVerdict work) refused (descriptionOf text)
 
 -- document 01's numbers of a verdict
 abbrev pub planNumbers : Verdict → Planned

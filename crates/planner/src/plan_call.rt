@@ -1,15 +1,14 @@
-// The plan: the shortest set of labels that shows every fault of a circuit.
+// The plan: the shortest set of labels that shows every fault of a device.
 use crate::Planned;
 use crate::WORKING_NUMBERS;
-use netlist::Circuit;
+use devices::Device;
 ghost use mathlib.Core.Path.{_≡_};
 ghost use Prim.Native.Nat.{_^_, _≤_};
 ghost use lib.ListN.{length};
 ghost use Rattle.cover.specs.Order.{labelsBelow};
 ghost use Rattle.cover.specs.Steps.{masksOf};
-ghost use Rattle.netlist.specs.Circuits.{netlistOf, Sized};
-ghost use Rattle.netlist.specs.WellFormed.{WellFormed};
-ghost use Rattle.planner.specs.PlanCall.{refused, soundRows, faultedRows, silentFirst, verdictOf, workingNumbers, planNumbers, planVerdict, planAnswer, WorkKept};
+ghost use Rattle.devices.specs.Devices.{problemOf, Fit};
+ghost use Rattle.planner.specs.PlanCall.{refused, silentFirst, verdictOf, workingNumbers, planNumbers, planVerdict, planAnswer, WorkKept};
 
 fn refuse(number: u32, place: usize) -> Planned
     ensures { λ r. ⌜ r ≡ planNumbers (refused number place) ⌝ }
@@ -24,23 +23,23 @@ fn refuse(number: u32, place: usize) -> Planned
 
 // Marks each fault at the labels that cover it, up to the first silent fault; the index of that one, or the number of faults.
 fn mark_faults(
-    c: Circuit,
+    d: Device,
     sound: &[i32],
     faulted: &mut [i32],
     labels: &[u32],
     masks: &mut [u32],
 ) -> usize
-    requires { ⌜ Sized c × WellFormed (netlistOf c) × (length (now faulted) ≡ 2 ^ c .head .inputs) × (length (now masks) ≡ 2 ^ c .head .inputs) ⌝ }
-    requires { ⌜ (now sound ≡ soundRows (netlistOf c)) × (now labels ≡ labelsBelow (2 ^ c .head .inputs)) ⌝ }
-    ensures { λ r. ⌜ r ≡ silentFirst (netlistOf c) ⌝ }
-    ensures { λ r. ⌜ (r ≡ c .head .faults → now (masks .exit) ≡ masksOf (soundRows (netlistOf c)) (faultedRows (netlistOf c)) (labelsBelow (2 ^ c .head .inputs)) (c .head .faults)) ⌝ }
+    requires { ⌜ Fit d × (length (now faulted) ≡ 2 ^ d .inputs) × (length (now masks) ≡ 2 ^ d .inputs) ⌝ }
+    requires { ⌜ (now sound ≡ problemOf d .sound) × (now labels ≡ labelsBelow (2 ^ d .inputs)) ⌝ }
+    ensures { λ r. ⌜ r ≡ silentFirst (problemOf d) ⌝ }
+    ensures { λ r. ⌜ (r ≡ d .faults → now (masks .exit) ≡ masksOf (problemOf d .sound) (problemOf d .faulted) (labelsBelow (2 ^ d .inputs)) (d .faults)) ⌝ }
 {
     cover::clear(masks);
-    let inputs = c.head.inputs as u32;
-    let count = c.head.faults;
+    let inputs = d.inputs as u32;
+    let count = d.faults;
     let mut f: usize = 0;
     while f < count {
-        simulation::rows(c, netlist::fault_at(c, f + 1), faulted);
+        devices::rows(d, f + 1, faulted);
         if cover::mark(sound, faulted, labels, inputs, f as u32, masks) {
             return f;
         }
@@ -51,23 +50,23 @@ fn mark_faults(
 
 // 13, 14 or the plan, by way of rows and masks that are lent.
 fn plan_by(
-    c: Circuit,
+    d: Device,
     sound: &mut [i32],
     faulted: &mut [i32],
     labels: &[u32],
     masks: &mut [u32],
 ) -> Planned
-    requires { ⌜ Sized c × WellFormed (netlistOf c) × (length (now sound) ≡ 2 ^ c .head .inputs) × (length (now faulted) ≡ 2 ^ c .head .inputs) × (length (now masks) ≡ 2 ^ c .head .inputs) ⌝ }
-    requires { ⌜ now labels ≡ labelsBelow (2 ^ c .head .inputs) ⌝ }
-    ensures { λ r. ⌜ r ≡ planNumbers (verdictOf (netlistOf c)) ⌝ }
+    requires { ⌜ Fit d × (length (now sound) ≡ 2 ^ d .inputs) × (length (now faulted) ≡ 2 ^ d .inputs) × (length (now masks) ≡ 2 ^ d .inputs) ⌝ }
+    requires { ⌜ now labels ≡ labelsBelow (2 ^ d .inputs) ⌝ }
+    ensures { λ r. ⌜ r ≡ planNumbers (verdictOf (problemOf d)) ⌝ }
 {
-    simulation::rows(c, netlist::fault_at(c, 0), sound);
-    let count = c.head.faults;
-    let first = mark_faults(c, sound, faulted, labels, masks);
+    devices::rows(d, 0, sound);
+    let count = d.faults;
+    let first = mark_faults(d, sound, faulted, labels, masks);
     if first < count {
         return refuse(13, first + 1);
     }
-    let chosen = search::find(masks, labels, count as u32, c.head.cap);
+    let chosen = search::find(masks, labels, count as u32, d.cap);
     let size = chosen.size;
     if size == 0 {
         return refuse(14, 0);
@@ -82,17 +81,17 @@ fn plan_by(
 }
 
 // The same with rows of its own; one mask a label is all that it uses of the working numbers.
-pub fn plan_circuit(c: Circuit, work: &mut [u32]) -> Planned
-    requires { ⌜ Sized c × WellFormed (netlistOf c) × (workingNumbers ≤ length (now work)) ⌝ }
-    ensures { λ r. ⌜ r ≡ planNumbers (verdictOf (netlistOf c)) ⌝ }
-    ensures { λ _. ⌜ WorkKept (verdictOf (netlistOf c)) (now (work .entry)) (now (work .exit)) ⌝ }
+pub fn plan_device(d: Device, work: &mut [u32]) -> Planned
+    requires { ⌜ Fit d × (workingNumbers ≤ length (now work)) ⌝ }
+    ensures { λ r. ⌜ r ≡ planNumbers (verdictOf (problemOf d)) ⌝ }
+    ensures { λ _. ⌜ WorkKept (verdictOf (problemOf d)) (now (work .entry)) (now (work .exit)) ⌝ }
 {
-    let due: usize = 1 << c.head.inputs;
+    let due: usize = 1 << d.inputs;
     let labels = cover::labels_below(due);
     let mut sound = [0i32; 256];
     let mut faulted = [0i32; 256];
     plan_by(
-        c,
+        d,
         &mut sound[..due],
         &mut faulted[..due],
         &labels[..due],
@@ -100,18 +99,18 @@ pub fn plan_circuit(c: Circuit, work: &mut [u32]) -> Planned
     )
 }
 
-// The plan of the text's circuit, or its refusal: the text's own, 8, 13 with the first silent fault, 14.
+// The plan of what the text describes, or its refusal: the text's own, 8, 13 with the first silent fault, 14.
 pub fn plan(text: &[u8], work: &mut [u32]) -> Planned
     ensures { λ r. ⌜ r ≡ planAnswer (now (text .entry)) (length (now (work .entry))) ⌝ }
     ensures { λ _. ⌜ WorkKept (planVerdict (now (text .entry)) (length (now (work .entry)))) (now (work .entry)) (now (work .exit)) ⌝ }
 {
-    let p = netlist::parse(text);
-    let number = p.number;
+    let r = devices::describe(text);
+    let number = r.number;
     if number != 0 {
-        return refuse(number, p.place);
+        return refuse(number, r.place);
     }
     if work.len() < WORKING_NUMBERS {
         return refuse(8, 0);
     }
-    plan_circuit(p.circuit, work)
+    plan_device(r.device, work)
 }

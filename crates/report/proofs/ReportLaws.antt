@@ -2,14 +2,12 @@
 --   report-fits        the report on any text has at most 715 bytes
 --   report-front       it stands at the front of the lent bytes, as many as the call counts
 --   plan-lines-length, labels-room, faults-room, plan-written    all lines of a plan, and writing them one part after the other
---   verdict-fitting    the numbers of a verdict are small, and its labels are at most 4 labels of the circuit
+--   verdict-fitting    the numbers of a verdict are small, and its labels are at most 4 labels below 2^N
 --   refused-by, planned-by    a verdict's lines, by its numbers
---   refusal-small      the numbers of a text's refusal
---   text-refuses, text-serves, short-out, short-work, report-served    the call, by the parser's answer and the lent buffers
+--   text-refuses, text-serves, short-out, short-work, report-served    the call, by what the text describes and the lent buffers
 use mathlib.Core.Path.{_≡_, refl, sym, ap, ap₂, _∙_, subst}
 use mathlib.Core.Bool.{Bool, true, false, cond, or-true}
 use mathlib.Core.List.{List, _++_, append-assoc}
-use mathlib.Core.Logic.{⊎-elim}
 use mathlib.Core.Option.{Option, none, some}
 use Prim.Native.Nat.{ℕ, suc, _+_, _*_, _^_, _<_, _≤_}
 use native.Mathlib.Omega.{arith}
@@ -21,54 +19,47 @@ use Rattle.integer.specs.ListTests.{Below}
 use Rattle.integer.proofs.Entries.{at-mem}
 use Rattle.cover.specs.Cover.{signatureOf}
 use Rattle.cover.proofs.Signatures.{signature-found}
-use Rattle.netlist.specs.Circuits.{Netlist, netlistOf}
-use Rattle.netlist.specs.Parsing.{Parse, accepted, rejected, parseOf, meaning, onParse}
-use Rattle.netlist.specs.WellFormed.{WellFormed}
-use Rattle.netlist.specs.declared.Parsed.{Parsed}
-use Rattle.netlist.proofs.Acceptance.{well-formed, accepted-as}
-use Rattle.netlist.proofs.Assembling.{meant}
-use Rattle.netlist.proofs.Refusals.{text-refused}
-use Rattle.simulation.proofs.RowBounds.{length-rows}
-use Rattle.statements.specs.Items.{sound as unfaulted}
+use Rattle.devices.specs.Describing.{Description, described, refusedAt, descriptionOf, describedBy, onDescription}
+use Rattle.devices.specs.Devices.{problemOf}
+use Rattle.devices.specs.Problems.{Problem, Proper}
+use Rattle.devices.specs.declared.Described.{Described}
+use Rattle.devices.proofs.Descriptions.{described-proper, described-as, refused-as, refusal-small}
 use Rattle.writing.specs.Writing.{placed, gather}
 use Rattle.writing.proofs.Writings.{length-placed, placed-more, placed-front, gather-length}
-use Rattle.planner.specs.PlanCall.{Verdict, refused, planned, soundRows, faultedRows, searched, silentFirst, verdictOf, workingNumbers, planVerdict, planNumbers, WorkKept}
+use Rattle.planner.specs.PlanCall.{Verdict, refused, planned, searched, silentFirst, verdictOf, workingNumbers, planVerdict, planNumbers, WorkKept}
 use Rattle.planner.specs.declared.Planned.{Planned}
-use Rattle.planner.proofs.FaultRows.{fault-count}
 use Rattle.planner.proofs.PlanLaws.{kept, kept-four}
 use Rattle.report_lines.specs.ReportLines.{planLine, refusedLine, labelLine, faultReportLine, planLines, reportBytes}
 use Rattle.report_lines.proofs.ReportLines.{refused-length, plan-length, label-line-length, fault-line-length}
-use Rattle.report.specs.ReportCall.{verdictLines, circuitReport, reportOf, short, reportAnswer, reportLeft, reportVerdict}
+use Rattle.report.specs.ReportCall.{verdictLines, problemReport, reportOf, short, reportAnswer, reportLeft, reportVerdict}
 use Rattle.report.specs.declared.Reported.{Reported}
 
-module _ (n : Netlist) (right : WellFormed n) (labels : List ℕ) (low : Below (2 ^ n .inputs) labels) where
-  label-part : length (gather (labelLine (soundRows n) labels) (length labels)) ≤ length labels * 17
-  label-part = gather-length 17 (labelLine (soundRows n) labels) (length labels) (label-line-length n right labels low)
+module _ (p : Problem) (right : Proper p) (labels : List ℕ) (low : Below (2 ^ p .inputs) labels) where
+  label-part : length (gather (labelLine (p .sound) labels) (length labels)) ≤ length labels * 17
+  label-part = gather-length 17 (labelLine (p .sound) labels) (length labels) (label-line-length p right labels low)
 
-  fault-part : length (gather (faultReportLine (soundRows n) (faultedRows n) labels) (length (faultedRows n))) ≤ length (faultedRows n) * 20
+  fault-part : length (gather (faultReportLine (p .sound) (p .faulted) labels) (length (p .faulted))) ≤ length (p .faulted) * 20
   fault-part =
-      let q = fault-count n in
-      gather-length 20 (faultReportLine (soundRows n) (faultedRows n) labels) (length (faultedRows n)) (λ f h. fault-line-length n right labels low f (omega (arith, h, q)))
+      gather-length 20 (faultReportLine (p .sound) (p .faulted) labels) (length (p .faulted)) (fault-line-length p right labels low)
 
   module _ (small : length labels ≤ 4) where
     abbrev A : List ℕ
     A = planLine (length labels)
 
     abbrev B : List ℕ
-    B = gather (labelLine (soundRows n) labels) (length labels)
+    B = gather (labelLine (p .sound) labels) (length labels)
 
     abbrev C : List ℕ
-    C = gather (faultReportLine (soundRows n) (faultedRows n) labels) (length (faultedRows n))
+    C = gather (faultReportLine (p .sound) (p .faulted) labels) (length (p .faulted))
 
-    long : length (planLines (soundRows n) (faultedRows n) labels) ≡ length A + length B + length C
+    long : length (planLines (p .sound) (p .faulted) labels) ≡ length A + length B + length C
     unfolding planLines
     long = omega (arith, length-append A (B ++ C), length-append B C)
 
-    pub plan-lines-length : length (planLines (soundRows n) (faultedRows n) labels) ≤ 715
+    pub plan-lines-length : length (planLines (p .sound) (p .faulted) labels) ≤ 715
     plan-lines-length =
         let a = plan-length (length labels) (omega (arith, small)) in
-        let q = fault-count n in
-        omega (arith, long, a, label-part, fault-part, small, q, right .faults-high)
+        omega (arith, long, a, label-part, fault-part, small, right .faults-high)
 
     -- written one after the other
     module _ (out : List ℕ) (wide : reportBytes ≤ length out) {at : ℕ} {one : List ℕ} (first : (at ≡ 0 + length A) × (one ≡ placed 0 A out)) where
@@ -96,68 +87,62 @@ module _ (n : Netlist) (right : WellFormed n) (labels : List ℕ) (low : Below (
             omega (arith, pair-length, pair-end, k, wide)
 
         pub plan-written : {end : ℕ} {three : List ℕ} → (end ≡ labels-end + length C) × (three ≡ placed labels-end C two)
-            → (end ≡ length (planLines (soundRows n) (faultedRows n) labels)) × (three ≡ placed 0 (planLines (soundRows n) (faultedRows n) labels) out)
+            → (end ≡ length (planLines (p .sound) (p .faulted) labels)) × (three ≡ placed 0 (planLines (p .sound) (p .faulted) labels) out)
         unfolding planLines
-        plan-written third =
-            let q = fault-count n in (
-              omega (arith, third .0, pair-end, length-append A B, long),
-              third .1
-                  ∙ placed-more 0 (A ++ B) C out _ _ pair pair-end (omega (arith, pair-length, fault-part, q, right .faults-high, wide))
-                  ∙ ap (λ (l : List ℕ). placed 0 l out) (append-assoc A B C),
-            )
+        plan-written third = (
+          omega (arith, third .0, pair-end, length-append A B, long),
+          third .1
+              ∙ placed-more 0 (A ++ B) C out _ _ pair pair-end (omega (arith, pair-length, fault-part, right .faults-high, wide))
+              ∙ ap (λ (l : List ℕ). placed 0 l out) (append-assoc A B C),
+        )
 
 -- ---- verdicts
 
--- a verdict's numbers are small, and its labels those of the circuit
-abbrev pub LinesFit : Netlist → Verdict → Type 0
-LinesFit n (refused number place) = (1 ≤ number) × (number < 100) × (place < 1000)
-LinesFit n (planned labels) = Below (2 ^ n .inputs) labels × (length labels ≤ 4)
+-- a verdict's numbers are small, and its labels below 2^N
+abbrev pub LinesFit : Problem → Verdict → Type 0
+LinesFit p (refused number place) = (1 ≤ number) × (number < 100) × (place < 1000)
+LinesFit p (planned labels) = Below (2 ^ p .inputs) labels × (length labels ≤ 4)
 
-searched-fitting : (n : Netlist) → WellFormed n → (o : Option (List ℕ)) → signatureOf (soundRows n) (faultedRows n) (n .cap) ≡ o → LinesFit n (searched o)
-searched-fitting n right none e = (lit≤ tt, lit≤ tt, lit≤ tt)
-searched-fitting n right (some labels) e =
-    let r = signature-found (soundRows n) (faultedRows n) (n .cap) labels e in (
-      λ i h. subst (λ (k : ℕ). getD labels i 0 < k) (length-rows n unfaulted) (r .0 .labels (getD labels i 0) (at-mem labels i h)),
+searched-fitting : (p : Problem) → Proper p → (o : Option (List ℕ)) → signatureOf (p .sound) (p .faulted) (p .cap) ≡ o → LinesFit p (searched o)
+searched-fitting p right none e = (lit≤ tt, lit≤ tt, lit≤ tt)
+searched-fitting p right (some labels) e =
+    let r = signature-found (p .sound) (p .faulted) (p .cap) labels e in (
+      λ i h. subst (λ (k : ℕ). getD labels i 0 < k) (right .rows-all 0 (omega arith)) (r .0 .labels (getD labels i 0) (at-mem labels i h)),
       omega (arith, r .2, right .cap-high),
     )
 
-pub verdict-fitting : (n : Netlist) → WellFormed n → LinesFit n (verdictOf n)
+pub verdict-fitting : (p : Problem) → Proper p → LinesFit p (verdictOf p)
 unfolding verdictOf
-verdict-fitting n right = go (ltb (silentFirst n) (length (n .faults))) refl
+verdict-fitting p right = go (ltb (silentFirst p) (length (p .faulted))) refl
   where
-    go : (t : Bool) → ltb (silentFirst n) (length (n .faults)) ≡ t
-        → LinesFit n (cond t (refused 13 (suc (silentFirst n))) (searched (signatureOf (soundRows n) (faultedRows n) (n .cap))))
-    go true e = (lit≤ tt, lit≤ tt, omega (arith, ltb-true (silentFirst n) (length (n .faults)) e, right .faults-high))
-    go false e = searched-fitting n right (signatureOf (soundRows n) (faultedRows n) (n .cap)) refl
+    go : (t : Bool) → ltb (silentFirst p) (length (p .faulted)) ≡ t
+        → LinesFit p (cond t (refused 13 (suc (silentFirst p))) (searched (signatureOf (p .sound) (p .faulted) (p .cap))))
+    go true e = (lit≤ tt, lit≤ tt, omega (arith, ltb-true (silentFirst p) (length (p .faulted)) e, right .faults-high))
+    go false e = searched-fitting p right (signatureOf (p .sound) (p .faulted) (p .cap)) refl
 
-verdict-length : (n : Netlist) (right : WellFormed n) (v : Verdict) → LinesFit n v → length (verdictLines n v) ≤ 715
-verdict-length n right (refused number place) f = let l = refused-length number place (f .1) (f .2) in omega (arith, l)
-verdict-length n right (planned labels) f = plan-lines-length n right labels (f .0) (f .1)
-
-pub refusal-small : (text : List ℕ) (number place : ℕ) → parseOf text ≡ rejected number place → (1 ≤ number) × (number < 100) × (place < 1000)
-refusal-small text number place e =
-    ⊎-elim (λ one. (omega (arith, one .0), omega (arith, one .0), omega (arith, one .1)))
-    (λ line. (omega (arith, line .number-low), omega (arith, line .number-high), omega (arith, line .place-high))) (text-refused text number place e)
+verdict-length : (p : Problem) (right : Proper p) (v : Verdict) → LinesFit p v → length (verdictLines p v) ≤ 715
+verdict-length p right (refused number place) f = let l = refused-length number place (f .1) (f .2) in omega (arith, l)
+verdict-length p right (planned labels) f = plan-lines-length p right labels (f .0) (f .1)
 
 -- the numbers of a verdict, and what its lines are
-module _ (n : Netlist) (p : Planned) where
-  pub refused-by : (v : Verdict) → LinesFit n v → p ≡ planNumbers v → (p .number ≡ 0 → ⊥) → (p .number < 100) × (p .place < 1000) × (refusedLine (p .number) (p .place) ≡ verdictLines n v)
+module _ (q : Problem) (p : Planned) where
+  pub refused-by : (v : Verdict) → LinesFit q v → p ≡ planNumbers v → (p .number ≡ 0 → ⊥) → (p .number < 100) × (p .place < 1000) × (refusedLine (p .number) (p .place) ≡ verdictLines q v)
   refused-by (refused number place) f e h = rw e (f .1, f .2, refl)
   refused-by (planned labels) f e h = absurd (h (ap (λ (x : Planned). x .number) e))
 
-  pub planned-by : (v : Verdict) → LinesFit n v → p ≡ planNumbers v → p .number ≡ 0
-      → (p .size ≤ 4) × Below (2 ^ n .inputs) (take (p .size) (p .labels)) × (planLines (soundRows n) (faultedRows n) (take (p .size) (p .labels)) ≡ verdictLines n v)
+  pub planned-by : (v : Verdict) → LinesFit q v → p ≡ planNumbers v → p .number ≡ 0
+      → (p .size ≤ 4) × Below (2 ^ q .inputs) (take (p .size) (p .labels)) × (planLines (q .sound) (q .faulted) (take (p .size) (p .labels)) ≡ verdictLines q v)
   planned-by (refused number place) f e h = let k = ap (λ (x : Planned). x .number) e in absurd (omega (arith, f .0, k, h))
   planned-by (planned labels) f e h = rw e (rw (kept-four labels (f .1)) (f .1, f .0, refl))
 
 -- every report fits
 pub report-fits : (text : List ℕ) → length (reportOf text) ≤ 715
 unfolding reportOf
-report-fits text = go (parseOf text) refl
+report-fits text = go (descriptionOf text) refl
   where
-    go : (p : Parse) → parseOf text ≡ p → length (onParse circuitReport refusedLine p) ≤ 715
-    go (accepted n) e = let w = well-formed text n e in verdict-length n w (verdictOf n) (verdict-fitting n w)
-    go (rejected number place) e =
+    go : (d : Description) → descriptionOf text ≡ d → length (onDescription problemReport refusedLine d) ≤ 715
+    go (described p) e = let w = described-proper text p e in verdict-length p w (verdictOf p) (verdict-fitting p w)
+    go (refusedAt number place) e =
         let s = refusal-small text number place e in
         let l = refused-length number place (s .1) (s .2) in
         omega (arith, l)
@@ -167,18 +152,18 @@ report-fits text = go (parseOf text) refl
 pub front-same : (out : List ℕ) {a b now : List ℕ} {end : ℕ} → a ≡ b → (end ≡ length a) × (now ≡ placed 0 a out) → (end ≡ length b) × (now ≡ placed 0 b out)
 front-same out same r = (r .0 ∙ ap length same, r .1 ∙ ap (λ (l : List ℕ). placed 0 l out) same)
 
--- by the parser's answer p
-module _ (text : List ℕ) (p : Parsed) (means : meaning p ≡ parseOf text) where
-  pub text-refuses : (p .number ≡ 0 → ⊥) → (p .number < 100) × (p .place < 1000) × (refusedLine (p .number) (p .place) ≡ reportOf text)
+-- by what was described
+module _ (text : List ℕ) (r : Described) (means : describedBy r ≡ descriptionOf text) where
+  pub text-refuses : (r .number ≡ 0 → ⊥) → (r .number < 100) × (r .place < 1000) × (refusedLine (r .number) (r .place) ≡ reportOf text)
   unfolding reportOf
   text-refuses h =
-      let e = sym means ∙ meant p refl refl h in
-      let s = refusal-small text (p .number) (p .place) e in
-      (s .1, s .2, sym (ap (onParse circuitReport refusedLine) e))
+      let e = refused-as text r means h in
+      let s = refusal-small text (r .number) (r .place) e in
+      (s .1, s .2, sym (ap (onDescription problemReport refusedLine) e))
 
-  pub text-serves : p .number ≡ 0 → verdictLines (netlistOf (p .circuit)) (verdictOf (netlistOf (p .circuit))) ≡ reportOf text
+  pub text-serves : r .number ≡ 0 → verdictLines (problemOf (r .device)) (verdictOf (problemOf (r .device))) ≡ reportOf text
   unfolding reportOf
-  text-serves h = sym (ap (onParse circuitReport refusedLine) (accepted-as text p means h))
+  text-serves h = sym (ap (onDescription problemReport refusedLine) (described-as text r means h))
 
 -- by the lent buffers
 module _ (text out work : List ℕ) where

@@ -4,17 +4,15 @@ use Prim.Native.Nat.{ℕ, _<_}
 use mathlib.Core.List.{List, List·Memᴰ}
 use mathlib.Core.Path.{_≡_}
 use lib.ListN.{length, getD}
-use Rattle.netlist.specs.Circuits.{Netlist, faultAt}
-use Rattle.simulation.specs.Rows.{rowsOf}
-use Rattle.statements.specs.Items.{sound}
+use Rattle.devices.specs.Problems.{Problem, rowsAt}
 use Rattle.transform.specs.Spectrum.{coefficientOf}
 
 -- the label printed for the fault of a number, from 1, is one of the plan's; its coefficients, sound and faulted, differ, and those of every label
 -- before it in the plan do not
-pub record PrintedFor (n : Netlist) (labels : List ℕ) (f label : ℕ) : Type 0 where
+pub record PrintedFor (p : Problem) (labels : List ℕ) (f label : ℕ) : Type 0 where
   pub listed : List·Memᴰ label labels
-  pub shown : coefficientOf (rowsOf n sound) label ≡ coefficientOf (rowsOf n (faultAt n f)) label → ⊥
+  pub shown : coefficientOf (rowsAt p 0) label ≡ coefficientOf (rowsAt p f) label → ⊥
   pub at : ℕ
   pub at-low : at < length labels
   pub at-label : getD labels at 0 ≡ label
-  pub first : (i : ℕ) → i < at → coefficientOf (rowsOf n sound) (getD labels i 0) ≡ coefficientOf (rowsOf n (faultAt n f)) (getD labels i 0)
+  pub first : (i : ℕ) → i < at → coefficientOf (rowsAt p 0) (getD labels i 0) ≡ coefficientOf (rowsAt p f) (getD labels i 0)

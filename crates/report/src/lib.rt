@@ -1,5 +1,5 @@
 // The report: the plan with its sound coefficients, and for each fault what the fixture counts under it.
-use netlist::Circuit;
+use devices::Device;
 use planner::Planned;
 use planner::WORKING_NUMBERS;
 use report_lines::fault_lines;
@@ -9,9 +9,8 @@ ghost use mathlib.Core.Path.{_≡_};
 ghost use Prim.Native.Nat.{_≤_, _<_, _^_};
 ghost use lib.ListN.{length};
 ghost use Rattle.integer.specs.ListTests.{Below};
-ghost use Rattle.netlist.specs.Circuits.{netlistOf, Sized};
-ghost use Rattle.netlist.specs.WellFormed.{WellFormed};
-ghost use Rattle.planner.specs.PlanCall.{workingNumbers, soundRows, faultedRows, verdictOf, planNumbers, planVerdict, WorkKept};
+ghost use Rattle.devices.specs.Devices.{problemOf, Fit};
+ghost use Rattle.planner.specs.PlanCall.{workingNumbers, verdictOf, planNumbers, planVerdict, WorkKept};
 ghost use Rattle.writing.specs.Writing.{placed};
 ghost use Rattle.report_lines.specs.ReportLines.{reportBytes, planLines};
 ghost use Rattle.report.specs.ReportCall.{verdictLines, reportOf, reportAnswer, reportLeft, reportVerdict};
@@ -26,42 +25,42 @@ pub struct Reported {
 }
 
 fn plan_lines_by(
-    c: Circuit,
+    d: Device,
     labels: &[u32],
     sound: &mut [i32],
     faulted: &mut [i32],
     out: &mut [u8],
 ) -> usize
-    requires { ⌜ Sized c × WellFormed (netlistOf c) × Below (2 ^ c .head .inputs) (now labels) × (length (now labels) ≤ 4) ⌝ }
-    requires { ⌜ (length (now sound) ≡ 2 ^ c .head .inputs) × (length (now faulted) ≡ 2 ^ c .head .inputs) × (reportBytes ≤ length (now out)) ⌝ }
-    ensures { λ r. ⌜ r ≡ length (planLines (soundRows (netlistOf c)) (faultedRows (netlistOf c)) (now (labels .entry))) ⌝ }
-    ensures { λ _. ⌜ now (out .exit) ≡ placed 0 (planLines (soundRows (netlistOf c)) (faultedRows (netlistOf c)) (now (labels .entry))) (now (out .entry)) ⌝ }
+    requires { ⌜ Fit d × Below (2 ^ d .inputs) (now labels) × (length (now labels) ≤ 4) ⌝ }
+    requires { ⌜ (length (now sound) ≡ 2 ^ d .inputs) × (length (now faulted) ≡ 2 ^ d .inputs) × (reportBytes ≤ length (now out)) ⌝ }
+    ensures { λ r. ⌜ r ≡ length (planLines (problemOf d .sound) (problemOf d .faulted) (now (labels .entry))) ⌝ }
+    ensures { λ _. ⌜ now (out .exit) ≡ placed 0 (planLines (problemOf d .sound) (problemOf d .faulted) (now (labels .entry))) (now (out .entry)) ⌝ }
 {
-    circuit::fault_spectrum(c, netlist::fault_at(c, 0), sound);
+    circuit::fault_spectrum(d, 0, sound);
     let numbers = [labels.len() as i32];
     let at = writing::put_line(out, 0, b"plan", &numbers);
     let labels_end = label_lines(out, at, labels, sound);
-    fault_lines(c, labels, sound, faulted, out, labels_end)
+    fault_lines(d, labels, sound, faulted, out, labels_end)
 }
 
 // All lines of a plan.
-fn plan_lines(c: Circuit, labels: &[u32], out: &mut [u8]) -> usize
-    requires { ⌜ Sized c × WellFormed (netlistOf c) × Below (2 ^ c .head .inputs) (now labels) × (length (now labels) ≤ 4) ⌝ }
+fn plan_lines(d: Device, labels: &[u32], out: &mut [u8]) -> usize
+    requires { ⌜ Fit d × Below (2 ^ d .inputs) (now labels) × (length (now labels) ≤ 4) ⌝ }
     requires { ⌜ reportBytes ≤ length (now out) ⌝ }
-    ensures { λ r. ⌜ r ≡ length (planLines (soundRows (netlistOf c)) (faultedRows (netlistOf c)) (now (labels .entry))) ⌝ }
-    ensures { λ _. ⌜ now (out .exit) ≡ placed 0 (planLines (soundRows (netlistOf c)) (faultedRows (netlistOf c)) (now (labels .entry))) (now (out .entry)) ⌝ }
+    ensures { λ r. ⌜ r ≡ length (planLines (problemOf d .sound) (problemOf d .faulted) (now (labels .entry))) ⌝ }
+    ensures { λ _. ⌜ now (out .exit) ≡ placed 0 (planLines (problemOf d .sound) (problemOf d .faulted) (now (labels .entry))) (now (out .entry)) ⌝ }
 {
-    let due: usize = 1 << c.head.inputs;
+    let due: usize = 1 << d.inputs;
     let mut sound = [0i32; 256];
     let mut faulted = [0i32; 256];
-    plan_lines_by(c, labels, &mut sound[..due], &mut faulted[..due], out)
+    plan_lines_by(d, labels, &mut sound[..due], &mut faulted[..due], out)
 }
 
-// The lines of an accepted circuit: those of its plan, or its refusal.
-fn circuit_lines(c: Circuit, p: Planned, out: &mut [u8]) -> usize
-    requires { ⌜ Sized c × WellFormed (netlistOf c) × (reportBytes ≤ length (now out)) × (p ≡ planNumbers (verdictOf (netlistOf c))) ⌝ }
-    ensures { λ r. ⌜ r ≡ length (verdictLines (netlistOf c) (verdictOf (netlistOf c))) ⌝ }
-    ensures { λ _. ⌜ now (out .exit) ≡ placed 0 (verdictLines (netlistOf c) (verdictOf (netlistOf c))) (now (out .entry)) ⌝ }
+// The lines of an accepted text: those of its plan, or its refusal.
+fn device_lines(d: Device, p: Planned, out: &mut [u8]) -> usize
+    requires { ⌜ Fit d × (reportBytes ≤ length (now out)) × (p ≡ planNumbers (verdictOf (problemOf d))) ⌝ }
+    ensures { λ r. ⌜ r ≡ length (verdictLines (problemOf d) (verdictOf (problemOf d))) ⌝ }
+    ensures { λ _. ⌜ now (out .exit) ≡ placed 0 (verdictLines (problemOf d) (verdictOf (problemOf d))) (now (out .entry)) ⌝ }
 {
     let number = p.number;
     if number != 0 {
@@ -69,7 +68,7 @@ fn circuit_lines(c: Circuit, p: Planned, out: &mut [u8]) -> usize
     }
     let size = p.size;
     let labels = p.labels;
-    plan_lines(c, &labels[..size], out)
+    plan_lines(d, &labels[..size], out)
 }
 
 // The lines for a text, and how many bytes they are.
@@ -79,14 +78,14 @@ fn text_lines(text: &[u8], out: &mut [u8], work: &mut [u32]) -> usize
     ensures { λ _. ⌜ now (out .exit) ≡ placed 0 (reportOf (now (text .entry))) (now (out .entry)) ⌝ }
     ensures { λ _. ⌜ WorkKept (planVerdict (now (text .entry)) (length (now (work .entry)))) (now (work .entry)) (now (work .exit)) ⌝ }
 {
-    let p = netlist::parse(text);
-    let number = p.number;
+    let r = devices::describe(text);
+    let number = r.number;
     if number != 0 {
-        return refused_line(out, number, p.place);
+        return refused_line(out, number, r.place);
     }
-    let c = p.circuit;
-    let plan = planner::plan_circuit(c, work);
-    circuit_lines(c, plan, out)
+    let d = r.device;
+    let plan = planner::plan_device(d, work);
+    device_lines(d, plan, out)
 }
 
 // The report on a text, at the front of `out`; 8 before all else unless there are 1,024 bytes and 4,608 working numbers.

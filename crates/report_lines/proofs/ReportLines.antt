@@ -3,8 +3,8 @@
 --   refused-read, plan-read, label-read, fault-read    a line with its numbers as the code reads them
 --   at-spectrum, label-lines-same, covering-same    lines and first covering labels, read off the spectra
 --   covering-here, covering-later, covering-none    a search for the first covering label
---   spectrum-left    what the circuit's spectrum leaves in a buffer of its size
---   label-line-length, fault-line-length    how long the lines of a circuit are
+--   spectrum-left    what the spectrum leaves in a buffer of its size
+--   label-line-length, fault-line-length    how long the lines of a problem are
 use mathlib.Core.Path.{_≡_, refl, sym, ap, ap₂, _∙_, subst}
 use mathlib.Core.Bool.{Bool, true, false}
 use mathlib.Core.List.{List, [], _∷_, _++_, append-nil}
@@ -28,13 +28,8 @@ use Rattle.integer.specs.ListTests.{Below}
 use Rattle.integer.proofs.Firsts.{first-ext, first-hit, first-none}
 use Rattle.integer.proofs.Machine.{reads-back}
 use Rattle.integer.proofs.Differing.{ne-differ, eq-differ}
-use Rattle.netlist.specs.Circuits.{Netlist, faultAt}
-use Rattle.netlist.specs.WellFormed.{WellFormed}
-use Rattle.simulation.specs.Rows.{rowsOf}
-use Rattle.simulation.proofs.RowBounds.{length-rows}
-use Rattle.statements.specs.Items.{sound as unfaulted}
+use Rattle.devices.specs.Problems.{Problem, rowsAt, Proper}
 use Rattle.statements.specs.Lines.{faultWord}
-use Rattle.statements.specs.declared.Fault.{Fault}
 use Rattle.writing.specs.Writing.{placed, gather, lineOf}
 use Rattle.writing.proofs.Writings.{natural-length, integer-length, gather-ext, line-one, line-two, line-three}
 use Rattle.results.specs.Results.{leaves}
@@ -43,9 +38,7 @@ use Rattle.screen.specs.declared.Answer.{Answer}
 use Rattle.screen.specs.declared.Answer.the-variants.{Done}
 use Rattle.transform.proofs.Spectra.{length-spectrum, nth-spectrum}
 use Rattle.circuit.specs.CircuitCall.{roomAnswer}
-use Rattle.planner.specs.PlanCall.{soundRows, faultedRows}
-use Rattle.circuit.proofs.CircuitLaws.{spectrum-bounded}
-use Rattle.planner.proofs.FaultRows.{fault-rows, fault-rows-next}
+use Rattle.circuit.proofs.CircuitLaws.{fault-spectrum-bounded}
 use Rattle.report_lines.specs.ReportLines.{planWord, labelWord, refusedWord, planLine, refusedLine, labelLine, labelCovers, coveringLabel, faultReportLine}
 use Rattle.report_lines.specs.Steps.{spectralLabelLine, differAt, spectralCovering}
 
@@ -156,92 +149,94 @@ label-each sound labels low few near i h =
     let l = low i h in
     label-length (getD labels i 0) (nth sound (getD labels i 0)) (omega (arith, l, few)) (near (getD labels i 0) l)
 
--- ---- the lines of a circuit
+-- ---- the lines of a problem
 
 -- a call with room for exactly the coefficients leaves them
-pub spectrum-left : (n : Netlist) (out : List ℤ) {f g : Fault} {r : Answer} {now : List ℤ} → length out ≡ 2 ^ n .inputs → f ≡ g → r ≡ roomAnswer (n .inputs) (length out)
-    → now ≡ leaves r (spectrumOf (rowsOf n f)) out → now ≡ spectrumOf (rowsOf n g)
+pub spectrum-left : (inputs : ℕ) (rows out : List ℤ) {r : Answer} {now : List ℤ} → length out ≡ 2 ^ inputs → length rows ≡ 2 ^ inputs → r ≡ roomAnswer inputs (length out)
+    → now ≡ leaves r (spectrumOf rows) out → now ≡ spectrumOf rows
 unfolding roomAnswer
-spectrum-left n out {f} {r} same fault answer left =
-    let s = spectrumOf (rowsOf n f) in
-    let long : length s ≡ length out = length-spectrum (rowsOf n f) ∙ length-rows n f ∙ sym same in
+spectrum-left inputs rows out {r} same count answer left =
+    let s = spectrumOf rows in
+    let long : length s ≡ length out = length-spectrum rows ∙ count ∙ sym same in
     let full : length out ≤ length s = omega (arith, long) in
-    let done : r ≡ Done = answer ∙ rw (le-ltb (length out) (2 ^ n .inputs) (omega (arith, same))) in
-    left
-    ∙ ap (λ (a : Answer). leaves a s out) done
-    ∙ ap (λ (l : List ℤ). s ++ l) (drop-of-length-le out full)
-    ∙ append-nil s
-    ∙ ap (λ (x : Fault). spectrumOf (rowsOf n x)) fault
+    let done : r ≡ Done = answer ∙ rw (le-ltb (length out) (2 ^ inputs) (omega (arith, same))) in
+    left ∙ ap (λ (a : Answer). leaves a s out) done ∙ ap (λ (l : List ℤ). s ++ l) (drop-of-length-le out full) ∙ append-nil s
 
-module _ (n : Netlist) (right : WellFormed n) (labels : List ℕ) (low : Below (2 ^ n .inputs) labels) where
-  few : 2 ^ n .inputs ≤ 256
+module _ (p : Problem) (right : Proper p) (labels : List ℕ) (low : Below (2 ^ p .inputs) labels) where
+  few : 2 ^ p .inputs ≤ 256
   few = pow-mono (right .inputs-high)
 
-  near : (f : Fault) (label : ℕ) → label < 2 ^ n .inputs → natAbs (coefficientOf (rowsOf n f) label) ≤ 15360
-  near f label h =
-      let long = length-rows n f in
-      subst (λ (z : ℤ). natAbs z ≤ 15360) (at-spectrum (rowsOf n f) label (omega (arith, h, long)))
-      (spectrum-bounded n f right label (let s = length-spectrum (rowsOf n f) in omega (arith, h, long, s)))
+  sound-long : length (p .sound) ≡ 2 ^ p .inputs
+  sound-long = right .rows-all 0 (omega arith)
 
-  low-rows : Below (length (soundRows n)) labels
-  low-rows = subst (λ (k : ℕ). Below k labels) (sym (length-rows n unfaulted)) low
+  near : (f : ℕ) → f ≤ length (p .faulted) → (label : ℕ) → label < 2 ^ p .inputs → natAbs (coefficientOf (rowsAt p f) label) ≤ 15360
+  near f named label h =
+      let long = right .rows-all f named in
+      subst (λ (z : ℤ). natAbs z ≤ 15360) (at-spectrum (rowsAt p f) label (omega (arith, h, long)))
+      (fault-spectrum-bounded p right f named label (let s = length-spectrum (rowsAt p f) in omega (arith, h, long, s)))
+
+  low-rows : Below (length (p .sound)) labels
+  low-rows = subst (λ (k : ℕ). Below k labels) (sym sound-long) low
 
   -- what the functions that write lines require of a spectrum
-  pub spectrum-ready : (f : Fault) (now : List ℤ) → now ≡ spectrumOf (rowsOf n f) → (length now ≡ 2 ^ n .inputs) × Below (length now) labels × (length now ≤ 256) × Within 15360 now
-  spectrum-ready f now e =
-      let long : length now ≡ 2 ^ n .inputs = ap length e ∙ length-spectrum (rowsOf n f) ∙ length-rows n f in
-      (long, subst (λ (k : ℕ). Below k labels) (sym long) low, omega (arith, long, few), subst (Within 15360) (sym e) (spectrum-bounded n f right))
+  pub spectrum-ready : (f : ℕ) → f ≤ length (p .faulted) → (now : List ℤ) → now ≡ spectrumOf (rowsAt p f)
+      → (length now ≡ 2 ^ p .inputs) × Below (length now) labels × (length now ≤ 256) × Within 15360 now
+  spectrum-ready f named now e =
+      let long : length now ≡ 2 ^ p .inputs = ap length e ∙ length-spectrum (rowsAt p f) ∙ right .rows-all f named in
+      (long, subst (λ (k : ℕ). Below k labels) (sym long) low, omega (arith, long, few), subst (Within 15360) (sym e) (fault-spectrum-bounded p right f named))
 
-  pub label-lines-same : (now : List ℤ) → now ≡ spectrumOf (soundRows n)
-      → gather (spectralLabelLine now labels) (length labels) ≡ gather (labelLine (soundRows n) labels) (length labels)
+  pub label-lines-same : (now : List ℤ) → now ≡ spectrumOf (p .sound)
+      → gather (spectralLabelLine now labels) (length labels) ≡ gather (labelLine (p .sound) labels) (length labels)
   unfolding spectralLabelLine labelLine
   label-lines-same now e =
-      gather-ext (spectralLabelLine now labels) (labelLine (soundRows n) labels) (length labels)
-      (λ i h. let l = getD labels i 0 in ap (λ (z : ℤ). lineOf labelWord (pos l ∷ z ∷ [])) (ap (λ (r : List ℤ). nth r l) e ∙ at-spectrum (soundRows n) l (low-rows i h)))
+      gather-ext (spectralLabelLine now labels) (labelLine (p .sound) labels) (length labels)
+      (λ i h. let l = getD labels i 0 in ap (λ (z : ℤ). lineOf labelWord (pos l ∷ z ∷ [])) (ap (λ (r : List ℤ). nth r l) e ∙ at-spectrum (p .sound) l (low-rows i h)))
 
-  pub label-line-length : (i : ℕ) → i < length labels → length (labelLine (soundRows n) labels i) ≤ 17
+  pub label-line-length : (i : ℕ) → i < length labels → length (labelLine (p .sound) labels i) ≤ 17
   unfolding labelLine
   label-line-length i h =
       let l = low i h in
-      label-length (getD labels i 0) (coefficientOf (soundRows n) (getD labels i 0)) (omega (arith, l, few)) (near unfaulted (getD labels i 0) l)
+      label-length (getD labels i 0) (coefficientOf (p .sound) (getD labels i 0)) (omega (arith, l, few)) (near 0 (omega arith) (getD labels i 0) l)
 
-  module _ (f : ℕ) (h : f < length (n .faults)) where
+  module _ (f : ℕ) (h : f < length (p .faulted)) where
     abbrev S : List ℤ
-    S = soundRows n
+    S = p .sound
 
     abbrev F : List ℤ
-    F = faultRows (faultedRows n) f
+    F = faultRows (p .faulted) f
 
     abbrev L : ℕ
     L = coveringLabel S F labels
 
-    long : length F ≡ 2 ^ n .inputs
-    long = ap length (fault-rows n f h) ∙ length-rows n (faultAt n (suc f))
+    named : suc f ≤ length (p .faulted)
+    named = omega (arith, h)
 
-    covering-low : L < 2 ^ n .inputs
-    covering-low = covering-below (2 ^ n .inputs) S F labels (pow-pos (n .inputs)) low
+    long : length F ≡ 2 ^ p .inputs
+    long = right .rows-all (suc f) named
+
+    covering-low : L < 2 ^ p .inputs
+    covering-low = covering-below (2 ^ p .inputs) S F labels (pow-pos (p .inputs)) low
 
     covering-near : natAbs (coefficientOf F L) ≤ 15360
-    covering-near = subst (λ (l : List ℤ). natAbs (coefficientOf l L) ≤ 15360) (sym (fault-rows n f h)) (near (faultAt n (suc f)) L covering-low)
+    covering-near = near (suc f) named L covering-low
 
-    pub fault-line-length : length (faultReportLine S (faultedRows n) labels f) ≤ 20
+    pub fault-line-length : length (faultReportLine S (p .faulted) labels f) ≤ 20
     unfolding faultReportLine
     fault-line-length = fault-length f L (coefficientOf F L) (omega (arith, h, right .faults-high)) (omega (arith, covering-low, few)) covering-near
 
     -- the line with its numbers as read, from the spectra and the label that was found
-    module _ (sound faulted : List ℤ) (label : ℕ) (s : sound ≡ spectrumOf S) (t : faulted ≡ spectrumOf (rowsOf n (faultAt n (f + 1)))) (found : label ≡ spectralCovering sound faulted labels) where
+    module _ (sound faulted : List ℤ) (label : ℕ) (s : sound ≡ spectrumOf S) (t : faulted ≡ spectrumOf (rowsAt p (f + 1))) (found : label ≡ spectralCovering sound faulted labels) where
       faulted-is : faulted ≡ spectrumOf F
-      faulted-is = t ∙ ap spectrumOf (fault-rows-next n f h)
+      faulted-is = t ∙ ap (λ (k : ℕ). spectrumOf (rowsAt p k)) (add-one f)
 
       covering-is : label ≡ L
-      covering-is =
-          found ∙ ap₂ (λ (a b : List ℤ). spectralCovering a b labels) s faulted-is ∙ covering-same S F labels (long ∙ sym (length-rows n unfaulted)) low-rows
+      covering-is = found ∙ ap₂ (λ (a b : List ℤ). spectralCovering a b labels) s faulted-is ∙ covering-same S F labels (long ∙ sym sound-long) low-rows
 
       value-is : nth faulted label ≡ coefficientOf F L
       value-is = ap₂ nth faulted-is covering-is ∙ at-spectrum F L (omega (arith, covering-low, long))
 
       pub fault-read : (label < 256) × (label < length faulted)
-          × (lineOf faultWord (toZ w32 (f + 1) ∷ toZ w32 label ∷ toZ w32 (ofZ w32 (nth faulted label)) ∷ []) ≡ faultReportLine S (faultedRows n) labels f)
+          × (lineOf faultWord (toZ w32 (f + 1) ∷ toZ w32 label ∷ toZ w32 (ofZ w32 (nth faulted label)) ∷ []) ≡ faultReportLine S (p .faulted) labels f)
       unfolding faultReportLine
       fault-read =
           let e = ap length faulted-is ∙ length-spectrum F ∙ long in (
@@ -253,4 +248,4 @@ module _ (n : Netlist) (right : WellFormed n) (labels : List ℕ) (low : Below (
           )
         where
           line-same : {a b d e g i : ℤ} → a ≡ b → d ≡ e → g ≡ i → lineOf faultWord (a ∷ d ∷ g ∷ []) ≡ lineOf faultWord (b ∷ e ∷ i ∷ [])
-          line-same p q r = cc
+          line-same x y z = cc

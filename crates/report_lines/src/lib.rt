@@ -1,5 +1,5 @@
-// The lines of a report, one kind at a time: of a refusal, of the labels of a plan, of the faults of a circuit.
-use netlist::Circuit;
+// The lines of a report, one kind at a time: of a refusal, of the labels of a plan, of the faults.
+use devices::Device;
 ghost use mathlib.Core.List.{[], _∷_};
 ghost use mathlib.Core.Path.{_≡_};
 ghost use Prim.Native.Nat.{_+_, _*_, _≤_, _<_, _^_};
@@ -7,9 +7,7 @@ ghost use lib.IntN.{pos};
 ghost use lib.ListN.{length};
 ghost use Rattle.integer.specs.Tab.{Within, nth};
 ghost use Rattle.integer.specs.ListTests.{Below};
-ghost use Rattle.netlist.specs.Circuits.{netlistOf, Sized};
-ghost use Rattle.netlist.specs.WellFormed.{WellFormed};
-ghost use Rattle.planner.specs.PlanCall.{soundRows, faultedRows};
+ghost use Rattle.devices.specs.Devices.{problemOf, Fit};
 ghost use Rattle.writing.specs.Writing.{placed, gather, lineOf};
 ghost use Rattle.transform.specs.Spectrum.{spectrumOf};
 ghost use Rattle.report_lines.specs.ReportLines.{reportBytes, labelWord, refusedLine, faultReportLine};
@@ -69,7 +67,7 @@ fn first_covering(labels: &[u32], sound: &[i32], faulted: &[i32]) -> u32
 
 // The line of fault f, from 0.
 fn fault_line(
-    c: Circuit,
+    d: Device,
     f: usize,
     labels: &[u32],
     sound: &[i32],
@@ -77,12 +75,12 @@ fn fault_line(
     out: &mut [u8],
     at: usize,
 ) -> usize
-    requires { ⌜ Sized c × WellFormed (netlistOf c) × Below (2 ^ c .head .inputs) (now labels) × (length (now labels) ≤ 4) ⌝ }
-    requires { ⌜ (now sound ≡ spectrumOf (soundRows (netlistOf c))) × (length (now faulted) ≡ 2 ^ c .head .inputs) × (f < c .head .faults) × (at + 20 ≤ length (now out)) ⌝ }
-    ensures { λ r. ⌜ r ≡ at + length (faultReportLine (soundRows (netlistOf c)) (faultedRows (netlistOf c)) (now (labels .entry)) f) ⌝ }
-    ensures { λ _. ⌜ now (out .exit) ≡ placed at (faultReportLine (soundRows (netlistOf c)) (faultedRows (netlistOf c)) (now (labels .entry)) f) (now (out .entry)) ⌝ }
+    requires { ⌜ Fit d × Below (2 ^ d .inputs) (now labels) × (length (now labels) ≤ 4) ⌝ }
+    requires { ⌜ (now sound ≡ spectrumOf (problemOf d .sound)) × (length (now faulted) ≡ 2 ^ d .inputs) × (f < d .faults) × (at + 20 ≤ length (now out)) ⌝ }
+    ensures { λ r. ⌜ r ≡ at + length (faultReportLine (problemOf d .sound) (problemOf d .faulted) (now (labels .entry)) f) ⌝ }
+    ensures { λ _. ⌜ now (out .exit) ≡ placed at (faultReportLine (problemOf d .sound) (problemOf d .faulted) (now (labels .entry)) f) (now (out .entry)) ⌝ }
 {
-    circuit::fault_spectrum(c, netlist::fault_at(c, f + 1), faulted);
+    circuit::fault_spectrum(d, f + 1, faulted);
     let label = first_covering(labels, sound, faulted);
     let value = faulted[label as usize];
     let numbers = [(f + 1) as i32, label as i32, value];
@@ -91,23 +89,23 @@ fn fault_line(
 
 // The lines of all faults.
 pub fn fault_lines(
-    c: Circuit,
+    d: Device,
     labels: &[u32],
     sound: &[i32],
     faulted: &mut [i32],
     out: &mut [u8],
     at: usize,
 ) -> usize
-    requires { ⌜ Sized c × WellFormed (netlistOf c) × Below (2 ^ c .head .inputs) (now labels) × (length (now labels) ≤ 4) ⌝ }
-    requires { ⌜ (now sound ≡ spectrumOf (soundRows (netlistOf c))) × (length (now faulted) ≡ 2 ^ c .head .inputs) × (at + 640 ≤ length (now out)) ⌝ }
-    ensures { λ r. ⌜ r ≡ at + length (gather (faultReportLine (soundRows (netlistOf c)) (faultedRows (netlistOf c)) (now (labels .entry))) (c .head .faults)) ⌝ }
-    ensures { λ _. ⌜ now (out .exit) ≡ placed at (gather (faultReportLine (soundRows (netlistOf c)) (faultedRows (netlistOf c)) (now (labels .entry))) (c .head .faults)) (now (out .entry)) ⌝ }
+    requires { ⌜ Fit d × Below (2 ^ d .inputs) (now labels) × (length (now labels) ≤ 4) ⌝ }
+    requires { ⌜ (now sound ≡ spectrumOf (problemOf d .sound)) × (length (now faulted) ≡ 2 ^ d .inputs) × (at + 640 ≤ length (now out)) ⌝ }
+    ensures { λ r. ⌜ r ≡ at + length (gather (faultReportLine (problemOf d .sound) (problemOf d .faulted) (now (labels .entry))) (d .faults)) ⌝ }
+    ensures { λ _. ⌜ now (out .exit) ≡ placed at (gather (faultReportLine (problemOf d .sound) (problemOf d .faulted) (now (labels .entry))) (d .faults)) (now (out .entry)) ⌝ }
 {
-    let count = c.head.faults;
+    let count = d.faults;
     let mut end = at;
     let mut f: usize = 0;
     while f < count {
-        end = fault_line(c, f, labels, sound, faulted, out, end);
+        end = fault_line(d, f, labels, sound, faulted, out, end);
         f += 1;
     }
     end

@@ -1,6 +1,7 @@
 pub mod FaultsRight
 pub mod FaultsWritten
 pub mod LineLoops
+pub mod LinesDue
 pub mod LinesOnly
 pub mod LinesRead
 pub mod LinesWritten

@@ -1,7 +1,7 @@
 -- The butterfly on a list of h + h numbers, turn by turn:
 --   at-turn            the list before the turn i: in each half the first i numbers are new
 --   at-start, at-end   before the turn 0 it is the list itself, and before the turn h the list of sums and differences
---   read-low, read-high, turn    what a turn reads, and what it leaves
+--   read-low, read-high, butterfly-turn    what a turn reads, and what it leaves
 use mathlib.Core.Path.{_≡_, sym, ap, ap₂, _∙_}
 use mathlib.Core.List.{List, [], _∷_, _++_, append-nil}
 use Prim.Native.Nat.{ℕ, _+_, _<_}

@@ -1,4 +1,4 @@
-// Holds every call of document 01 to stored cases that the second implementation (reference/) made. They come on standard input, one after the
+// Holds every call to stored cases that the second implementation (reference/) made. They come on standard input, one after the
 // other. A case has a head of 54 bytes, `CALL,TTTTT,LLLLL,AAAAA,BBBBB,RRRRR,WWWWW,DDDDD` and 0A: the call's word, filled up with spaces to 11 bytes;
 // how many bytes its text has, how many numbers its list, its first and its second arguments; how many numbers (a report: bytes) and how many
 // working numbers are lent; how many bytes are due. Then come the text, the list, the arguments (each number a sign, ten digits, and a comma or 0A)

@@ -3,6 +3,7 @@
 //! the calls on texts with that transform; and the readings, summed and divided
 //! in binary64.
 
+use second::devices;
 use second::netlist;
 use second::plan::{order, CAP_LIMIT, WORKING_NUMBERS};
 use second::reading::{test_fault, test_fixture};
@@ -33,7 +34,7 @@ pub fn spectrum(rows: &[i32], out: &mut [i32]) -> Result<(), Refusal> {
 }
 
 pub fn circuit(text: &[u8], fault: u32, out: &mut [i32]) -> Result<(), Refusal> {
-    let rows = netlist::parse(text)?.rows(fault)?;
+    let rows = devices::parse(text)?.rows(fault)?;
     spectrum(&rows, out)
 }
 
@@ -87,13 +88,14 @@ struct Planned {
 }
 
 fn planned(text: &[u8], working: usize) -> Result<Planned, Refusal> {
-    let netlist = netlist::parse(text)?;
+    let device = devices::parse(text)?;
     test_room(working, WORKING_NUMBERS)?;
-    let rows = netlist.rows(0)?;
-    let mut changes = Vec::with_capacity(netlist.faults.len() * rows.len());
-    for fault in 1..=netlist.faults.len() {
+    let rows = device.rows(0)?;
+    let faults = device.faults().len();
+    let mut changes = Vec::with_capacity(faults * rows.len());
+    for fault in 1..=faults {
         let start = changes.len();
-        let faulted = netlist.rows(fault as u32)?;
+        let faulted = device.rows(fault as u32)?;
         changes.extend(faulted.iter().zip(&rows).map(|(new, old)| new - old));
         if changes[start..].iter().all(|&change| change == 0) {
             return refuse(13, fault);
@@ -106,11 +108,11 @@ fn planned(text: &[u8], working: usize) -> Result<Planned, Refusal> {
             *mask |= u32::from(change != 0) << fault;
         }
     }
-    let order = order(netlist.inputs);
+    let order = order(device.inputs());
     let search = Search::new(order.iter().map(|&label| by_label[label]).collect());
-    let all = u32::MAX >> (32 - netlist.faults.len());
+    let all = u32::MAX >> (32 - faults);
     let mut chosen = [0; CAP_LIMIT];
-    for size in 1..=netlist.cap {
+    for size in 1..=device.cap() {
         let chosen = &mut chosen[..size];
         if search.choose(0, all, chosen) {
             let labels = chosen.iter().map(|&at| order[at]).collect();
@@ -188,7 +190,7 @@ mod tests {
     use second::circuits::{largest_report, worst_search, Draft, Sizes, Sketch};
     use second::random::Random;
     use second::reading::Reading;
-    use second::{plan, reading, report, walsh};
+    use second::{plan, reading, report, table_texts, walsh};
 
     #[test]
     fn equals_the_direct_sums() {
@@ -215,17 +217,23 @@ mod tests {
     }
 
     #[test]
-    fn circuits_equal_the_direct_sums() {
+    fn circuits_and_tables_equal_the_direct_sums() {
         let mut random = Random::new(7);
-        for _ in 0..100 {
-            let sizes = Sizes::draw(&mut random);
-            let mut text = Draft::draw(&mut random, sizes).text();
+        for round in 0..200 {
+            let draft = match round % 2 {
+                0 => {
+                    let sizes = Sizes::draw(&mut random);
+                    Draft::draw(&mut random, sizes)
+                }
+                _ => table_texts::draw(&mut random, 1 + round / 2 % 8),
+            };
+            let (mut text, sizes) = (draft.text(), draft.sizes);
             if random.once_in(10) {
                 text.pop();
             }
             let room = (1 << sizes.inputs) - 1 + random.below(4);
             for fault in 0..=sizes.faults as u32 + 1 {
-                let due = netlist::circuit(&text, fault, room);
+                let due = devices::circuit(&text, fault, room);
                 let case = format_args!("fault {fault}, {sizes:?}");
                 compare(&mut random, case, room, &due, |out| {
                     answer(&circuit(&text, fault, out))
@@ -242,7 +250,10 @@ mod tests {
         for round in 0..1200 {
             let inputs = 1 + round % 7;
             let cap = random.pick(&[1, 2, 3, 4, 4, 4]);
-            let draft = Sketch::draw(&mut random, inputs).draft(cap);
+            let draft = match round % 4 {
+                0 => table_texts::draw_blocks(&mut random, inputs).with_cap(cap),
+                _ => Sketch::draw(&mut random, inputs).draft(cap),
+            };
             let draft = match draft.without_silent() {
                 Some(draft) if !random.once_in(8) => draft,
                 _ => draft,
@@ -266,9 +277,11 @@ mod tests {
         let due = plan::plan(&text, WORKING_NUMBERS);
         assert_eq!(super::plan(&text, WORKING_NUMBERS), due);
         let text = largest_report().text();
-        let due = report::report(&text, REPORT_ROOM, WORKING_NUMBERS);
-        let found = super::report(&text, REPORT_ROOM, WORKING_NUMBERS);
-        assert_eq!(found, due);
+        for text in [&text, &table_texts::largest().text()] {
+            let due = report::report(text, REPORT_ROOM, WORKING_NUMBERS);
+            let found = super::report(text, REPORT_ROOM, WORKING_NUMBERS);
+            assert_eq!(found, due);
+        }
         assert_eq!(
             super::report(&text, REPORT_ROOM - 1, WORKING_NUMBERS),
             refuse(8, 0)

@@ -2,17 +2,18 @@
 //! number, place and the whole lent buffer, with noise in and around it, at
 //! every comparison. The text stands between bytes that would carry it on.
 
+use differential::both::{badly_written, with_every_byte, Both};
 use differential::lent::{lend_text, surround, Shown};
 use differential::library::{self, Part};
-use differential::outcomes::{compare, written, Outcomes};
+use differential::outcomes::written;
 use second::circuits::{
     with_line, Draft, Sizes, DAMAGES, LISTING, SILENT_FAULT, STUCK_INNER_LINE, STUCK_INPUTS,
     TWO_OUTPUTS, TWO_STUCK_INPUTS,
 };
-use second::netlist::{self, Netlist, StuckLine, CIRCUIT_LIMIT, TEXT_LIMIT};
+use second::lines::{self, StuckLine, TEXT_LIMIT};
+use second::netlist::{self, Netlist, CIRCUIT_LIMIT};
 use second::random::Random;
 use second::walsh;
-use std::collections::BTreeSet;
 
 const SEED: u64 = 0x4e45_544c_4953_5400;
 
@@ -25,96 +26,30 @@ const PAIRS: &str = "circuit,2,2,2,2,1\n\
     fault,1,0,3,1\n\
     fault,2,1,3,0,4,1\n";
 
-/// Fault numbers that no circuit has, some of them 0 or 1 in fewer bits.
-const NO_FAULTS: [u32; 7] = [33, 256, 257, 65_536, 65_537, 1 << 31, u32::MAX];
-
-/// Both implementations, the noise for lent buffers, how often each outcome
-/// came, and at which lines the text was refused.
-struct Both {
-    random: Random,
-    outcomes: Outcomes,
-    places: BTreeSet<usize>,
+/// Asserts what the text is refused by; (0, 0) where it is accepted.
+fn expect(both: &mut Both, text: &[u8], due: (u32, usize)) {
+    let found = both.circuit(text, 0, 256);
+    assert_eq!(found, due, "{}", Shown(text));
 }
 
-impl Both {
-    fn new(subject: u64) -> Self {
-        Both {
-            random: Random::new(SEED + subject),
-            outcomes: Outcomes::default(),
-            places: BTreeSet::new(),
-        }
-    }
+/// The listing with its line `place` replaced.
+fn expect_line(both: &mut Both, place: usize, line: &str, number: u32) {
+    let text = with_line(LISTING, place, line);
+    expect(both, &text, (number, if number == 0 { 0 } else { place }));
+}
 
-    /// Lends the text with what stands around it, and a buffer of `room`
-    /// numbers, and holds all that comes back against what is due.
-    fn settle(&mut self, texts: [&[u8]; 3], fault: u32, room: usize) -> (u32, usize) {
-        let case = format_args!("fault {fault} of {}", Shown(texts[1]));
-        let due = netlist::circuit(texts[1], fault, room);
-        let (number, place) = compare(&mut self.random, case, room, &due, |out| {
-            lend_text(case, texts, |text| library::circuit(text, fault, out))
-        });
-        let limit = -CIRCUIT_LIMIT..=CIRCUIT_LIMIT;
-        assert!(
-            due.iter().flatten().all(|number| limit.contains(number)),
-            "{case}: a coefficient is beyond the limit"
-        );
-        self.outcomes.note(number);
-        if place != 0 {
-            self.places.insert(place);
-        }
-        (number, place)
-    }
-
-    fn circuit(&mut self, text: &[u8], fault: u32, room: usize) -> (u32, usize) {
-        let texts = surround(&mut self.random, text);
-        self.settle(texts, fault, room)
-    }
-
-    /// Asserts what the text is refused by; (0, 0) where it is accepted.
-    fn expect(&mut self, text: &[u8], due: (u32, usize)) {
-        let found = self.circuit(text, 0, 256);
-        assert_eq!(found, due, "{}", Shown(text));
-    }
-
-    /// The listing with its line `place` replaced.
-    fn expect_line(&mut self, place: usize, line: &str, number: u32) {
-        let text = with_line(LISTING, place, line);
-        self.expect(&text, (number, if number == 0 { 0 } else { place }));
-    }
-
-    fn draft(&mut self) -> Draft {
-        let sizes = Sizes::draw(&mut self.random);
-        Draft::draw(&mut self.random, sizes)
-    }
-
-    /// Every fault of a good circuit; gives how many change its rows.
-    fn every_fault(&mut self, draft: &Draft) -> usize {
-        let text = draft.text();
-        let netlist = netlist::parse(&text)
-            .unwrap_or_else(|refusal| panic!("{refusal:?} for {}", Shown(&text)));
-        let length = 1 << netlist.inputs;
-        let mut changing = 0;
-        for fault in 0..=netlist.faults.len() as u32 {
-            let found = self.circuit(&text, fault, length);
-            assert_eq!(found, (0, 0), "fault {fault} of {}", Shown(&text));
-            changing += usize::from(netlist.rows(fault) != netlist.rows(0));
-        }
-        changing
-    }
-
-    fn field(&mut self, text: &[u8], number: usize) -> Part {
-        let case = format_args!("field {number} of {}", Shown(text));
-        let found = lend_text(case, surround(&mut self.random, text), |text| {
-            library::field(text, number)
-        });
-        let (start, length) = netlist::field(text, number);
-        assert_eq!(
-            found,
-            Part { start, length },
-            "{case}: left the library, right what is due"
-        );
-        found
-    }
+fn field(both: &mut Both, text: &[u8], number: usize) -> Part {
+    let case = format_args!("field {number} of {}", Shown(text));
+    let found = lend_text(case, surround(&mut both.random, text), |text| {
+        library::field(text, number)
+    });
+    let (start, length) = lines::field(text, number);
+    assert_eq!(
+        found,
+        Part { start, length },
+        "{case}: left the library, right what is due"
+    );
+    found
 }
 
 /// The library's coefficients, without the second implementation.
@@ -241,7 +176,7 @@ fn truth_tables_of_the_kinds() {
 #[test]
 fn each_input_as_an_output() {
     // x_i of weight w: w 2^(N-1) at label 0, its negative at label 2^(i-1).
-    let mut both = Both::new(1);
+    let mut both = Both::new(SEED + 1);
     for inputs in 1..=8 {
         for input in 1..=inputs {
             let weight = both.random.between(1, 15);
@@ -266,7 +201,7 @@ fn each_input_as_an_output() {
 
 #[test]
 fn circuits_of_every_size() {
-    let mut both = Both::new(2);
+    let mut both = Both::new(SEED + 2);
     let mut changing = 0;
     for inputs in 1..=8 {
         for gates in 0..=48 {
@@ -292,7 +227,7 @@ fn circuits_of_every_size() {
 
 #[test]
 fn circuits_of_the_largest_size() {
-    let mut both = Both::new(3);
+    let mut both = Both::new(SEED + 3);
     let mut changing = 0;
     for _ in 0..60 {
         let draft = Draft::draw(&mut both.random, Sizes::LARGEST);
@@ -304,7 +239,7 @@ fn circuits_of_the_largest_size() {
 
 #[test]
 fn every_count_of_faults() {
-    let mut both = Both::new(4);
+    let mut both = Both::new(SEED + 4);
     for faults in 1..=32 {
         for cap in 1..=4 {
             let drawn = Sizes::draw(&mut both.random);
@@ -317,14 +252,7 @@ fn every_count_of_faults() {
             };
             let draft = Draft::draw(&mut both.random, sizes);
             both.every_fault(&draft);
-            let text = draft.text();
-            let (next, length) = (faults as u32 + 1, 1 << inputs);
-            for fault in [next, next + 1].into_iter().chain(NO_FAULTS) {
-                for room in [0, length - 1, length, length + 9] {
-                    let found = both.circuit(&text, fault, room);
-                    assert_eq!(found, (12, 0), "fault {fault} of {faults}, room {room}");
-                }
-            }
+            both.no_faults(&draft);
         }
     }
     both.outcomes.assert_seen(&[(0, 2000), (12, 4000)]);
@@ -332,26 +260,12 @@ fn every_count_of_faults() {
 
 #[test]
 fn buffers_too_short_exact_and_longer() {
-    let mut both = Both::new(5);
+    let mut both = Both::new(SEED + 5);
     for inputs in 1..=8 {
-        let length = 1 << inputs;
         for _ in 0..6 {
             let drawn = Sizes::draw(&mut both.random);
             let draft = Draft::draw(&mut both.random, Sizes { inputs, ..drawn });
-            let text = draft.text();
-            let faults = draft.sizes.faults as u32;
-            for fault in [0, 1, faults] {
-                for room in [0, 1, length / 2, length - 1] {
-                    let found = both.circuit(&text, fault, room);
-                    assert_eq!(found, (8, 0), "room {room} for {length}");
-                    let found = both.circuit(&text, faults + 1, room);
-                    assert_eq!(found, (12, 0), "12 and 8: room {room} for {length}");
-                }
-                for room in [length, length + 1, 2 * length, 256, 2048] {
-                    let found = both.circuit(&text, fault, room);
-                    assert_eq!(found, (0, 0), "room {room} for {length}");
-                }
-            }
+            both.buffers(&draft);
         }
     }
     both.outcomes.assert_seen(&[(0, 700), (8, 500), (12, 500)]);
@@ -359,7 +273,7 @@ fn buffers_too_short_exact_and_longer() {
 
 #[test]
 fn inputs_inner_lines_and_outputs_stuck_at_once() {
-    let mut both = Both::new(6);
+    let mut both = Both::new(SEED + 6);
     let (mut full, mut telling) = (0, 0);
     for _ in 0..500 {
         let drawn = Sizes::draw(&mut both.random);
@@ -409,7 +323,7 @@ fn inputs_inner_lines_and_outputs_stuck_at_once() {
 fn stuck_lines_show_in_the_outputs() {
     // Lines 1, 3 and 4 are outputs; whatever is applied, stuck lines show
     // their values there and to their readers.
-    let mut both = Both::new(7);
+    let mut both = Both::new(SEED + 7);
     let start = "circuit,2,2,4,1,1\ngate,nor,1,2\ngate,not,3,0\n\
         output,1,1\noutput,3,2\noutput,4,4\noutput,4,8\n";
     for (fault, rows) in [
@@ -436,7 +350,7 @@ fn stuck_lines_show_in_the_outputs() {
 
 #[test]
 fn coefficients_at_their_limit() {
-    let mut both = Both::new(8);
+    let mut both = Both::new(SEED + 8);
     // Line 9 always shows 1, line 15 the parity of all inputs.
     let outputs = |line: usize| format!("output,{line},15\n").repeat(4);
     let text = format!(
@@ -472,7 +386,7 @@ fn coefficients_at_their_limit() {
 
 #[test]
 fn damaged_texts() {
-    let mut both = Both::new(20);
+    let mut both = Both::new(SEED + 20);
     let mut refused = [0; DAMAGES.len()];
     for round in 0..4000 {
         let drawn = Sizes::draw(&mut both.random);
@@ -518,7 +432,7 @@ fn damaged_texts() {
 
 #[test]
 fn every_number_in_every_place() {
-    let mut both = Both::new(21);
+    let mut both = Both::new(SEED + 21);
     let small = Sizes {
         inputs: 3,
         gates: 5,
@@ -528,19 +442,7 @@ fn every_number_in_every_place() {
     };
     for _ in 0..6 {
         let draft = Draft::draw(&mut both.random, small);
-        for (line, field) in draft.numbers() {
-            let plain = (0..=66).chain([99, 100, 255, 256, 257, 512, 999, 1000, 4097, 9999]);
-            let beyond = [10_000, 10_001, 65_537, 99_999, 4_294_967_297];
-            let written = plain
-                .chain(beyond)
-                .map(|number: u64| number.to_string())
-                .chain(["00", "01", "001", "0001", "007", ""].map(String::from));
-            for number in written {
-                let mut draft = draft.clone();
-                draft.lines[line][field] = number;
-                both.circuit(&draft.text(), 1, 256);
-            }
-        }
+        both.every_number(&draft);
     }
     both.outcomes.assert_seen(&[
         (0, 500),
@@ -555,7 +457,7 @@ fn every_number_in_every_place() {
 
 #[test]
 fn ranges_at_their_ends() {
-    let mut both = Both::new(22);
+    let mut both = Both::new(SEED + 22);
     for (field, low, high) in [(1, 1, 8), (3, 1, 4), (4, 1, 32), (5, 1, 4), (2, 0, 48)] {
         for number in 0..=60 {
             // After a first line in range the second is missing.
@@ -563,7 +465,11 @@ fn ranges_at_their_ends() {
             sizes[field] = number.to_string();
             let text = sizes.join(",") + "\n";
             let in_range = (low..=high).contains(&number);
-            both.expect(text.as_bytes(), if in_range { (2, 2) } else { (3, 1) });
+            expect(
+                &mut both,
+                text.as_bytes(),
+                if in_range { (2, 2) } else { (3, 1) },
+            );
         }
     }
     for number in (0..=60).chain([99, 100, 999, 9999]) {
@@ -575,25 +481,25 @@ fn ranges_at_their_ends() {
         };
         // Line 4 of the text is the gate that drives line 6.
         let below = number < 6;
-        both.expect_line(4, &format!("gate,or,{number},1"), due(below, 4));
-        both.expect_line(4, &format!("gate,or,1,{number}"), due(below, 4));
-        both.expect_line(4, &format!("gate,not,{number},0"), due(below, 4));
+        expect_line(&mut both, 4, &format!("gate,or,{number},1"), due(below, 4));
+        expect_line(&mut both, 4, &format!("gate,or,1,{number}"), due(below, 4));
+        expect_line(&mut both, 4, &format!("gate,not,{number},0"), due(below, 4));
         let not = if number == 0 { 0 } else { 3 };
-        both.expect_line(4, &format!("gate,not,1,{number}"), not);
+        expect_line(&mut both, 4, &format!("gate,not,1,{number}"), not);
         let there = number <= 7;
-        both.expect_line(6, &format!("output,{number},1"), due(there, 5));
+        expect_line(&mut both, 6, &format!("output,{number},1"), due(there, 5));
         let weight = if (1..=15).contains(&number) { 0 } else { 3 };
-        both.expect_line(6, &format!("output,7,{number}"), weight);
-        both.expect_line(7, &format!("fault,{number},0"), due(there, 5));
+        expect_line(&mut both, 6, &format!("output,7,{number}"), weight);
+        expect_line(&mut both, 7, &format!("fault,{number},0"), due(there, 5));
         let value = if number <= 1 { 0 } else { 3 };
-        both.expect_line(7, &format!("fault,7,{number}"), value);
-        both.expect_line(7, &format!("fault,1,0,2,0,7,{number}"), value);
+        expect_line(&mut both, 7, &format!("fault,7,{number}"), value);
+        expect_line(&mut both, 7, &format!("fault,1,0,2,0,7,{number}"), value);
         // Line 3 is stuck too: before it, at it, after it.
         let last = match due(there, 5) {
             0 if number <= 3 => 6,
             other => other,
         };
-        both.expect_line(7, &format!("fault,3,0,{number},1"), last);
+        expect_line(&mut both, 7, &format!("fault,3,0,{number},1"), last);
     }
     both.outcomes
         .assert_seen(&[(0, 50), (2, 90), (3, 400), (4, 100), (5, 100), (6, 3)]);
@@ -601,18 +507,18 @@ fn ranges_at_their_ends() {
 
 #[test]
 fn each_sentence_on_the_text() {
-    let mut both = Both::new(23);
+    let mut both = Both::new(SEED + 23);
     let text = LISTING.as_bytes();
-    both.expect(text, (0, 0));
+    expect(&mut both, text, (0, 0));
     // A line missing, or without its end.
-    both.expect(b"", (2, 1));
-    both.expect(b"\n", (2, 1));
-    both.expect(b"circuit,3,4,1,2,2", (2, 1));
-    both.expect(b"circuit,3,4,1,2,2\n", (2, 2));
-    both.expect(b"circuit,3,4,1,2,2\n\n", (2, 2));
-    both.expect(&text[..text.len() - 1], (2, 8));
-    both.expect(&text[..text.len() - 10], (2, 8));
-    both.expect(&text[..text.len() - 11], (2, 7));
+    expect(&mut both, b"", (2, 1));
+    expect(&mut both, b"\n", (2, 1));
+    expect(&mut both, b"circuit,3,4,1,2,2", (2, 1));
+    expect(&mut both, b"circuit,3,4,1,2,2\n", (2, 2));
+    expect(&mut both, b"circuit,3,4,1,2,2\n\n", (2, 2));
+    expect(&mut both, &text[..text.len() - 1], (2, 8));
+    expect(&mut both, &text[..text.len() - 10], (2, 8));
+    expect(&mut both, &text[..text.len() - 11], (2, 7));
     // Bytes after the last due line.
     for more in [
         "\n",
@@ -624,7 +530,7 @@ fn each_sentence_on_the_text() {
         "fault,2,1\n",
         LISTING,
     ] {
-        both.expect(&[text, more.as_bytes()].concat(), (7, 9));
+        expect(&mut both, &[text, more.as_bytes()].concat(), (7, 9));
     }
     // One size more or less than the lines that follow.
     for (sizes, due) in [
@@ -640,69 +546,44 @@ fn each_sentence_on_the_text() {
         ("circuit,8,4,1,2,2", (0, 0)),
         ("circuit,9,4,1,2,2", (3, 1)),
     ] {
-        both.expect(&with_line(LISTING, 1, sizes), due);
+        expect(&mut both, &with_line(LISTING, 1, sizes), due);
     }
     // The line end is one byte 0A.
     let crlf = LISTING.replace('\n', "\r\n");
-    both.expect(crlf.as_bytes(), (2, 1));
+    expect(&mut both, crlf.as_bytes(), (2, 1));
     let cr = LISTING.replace('\n', "\r");
-    both.expect(cr.as_bytes(), (2, 1));
+    expect(&mut both, cr.as_bytes(), (2, 1));
     for (place, line) in LISTING.lines().enumerate() {
         let (place, words) = (place + 1, line.split_once(',').expect("a comma"));
         // Wrong words, byte for byte.
         for word in ["", "x", "circui", "gates", "Gate", "OUTPUT", "fault "] {
-            both.expect_line(place, &format!("{word},{}", words.1), 2);
+            expect_line(&mut both, place, &format!("{word},{}", words.1), 2);
         }
         for word in ["circuit", "gate", "output", "fault"] {
             let number = if word == words.0 { 0 } else { 2 };
-            both.expect_line(place, &format!("{word},{}", words.1), number);
+            expect_line(&mut both, place, &format!("{word},{}", words.1), number);
         }
-        // Fields too many, too few or empty; other bytes.
-        for bad in [
-            String::new(),
-            words.0.to_string(),
-            format!("{line},"),
-            format!(",{line}"),
-            format!("{line},1"),
-            format!("{line} "),
-            format!(" {line}"),
-            format!("{line}\r"),
-            format!("{line}\0"),
-            line.replacen(',', ",,", 1),
-            line.replacen(',', ";", 1),
-            line.replacen(',', ", ", 1),
-            line.replacen(',', ",\"", 1),
-            line.rsplit_once(',').expect("a comma").0.to_string(),
-            format!("{},", line.rsplit_once(',').expect("a comma").0),
-        ] {
-            both.expect_line(place, &bad, 2);
-        }
-        // The last number of the line, badly written.
-        let start = line.rsplit_once(',').expect("a comma").0;
-        for number in [
-            "00", "01", "02", "001", "0000", "00000", "10000", "00001", "-1", "-0", "+1", "1.",
-            "1e0", "a", "0x1", "1_", "\u{661}", "/", ":",
-        ] {
-            both.expect_line(place, &format!("{start},{number}"), 2);
+        for bad in badly_written(line) {
+            expect_line(&mut both, place, &bad, 2);
         }
     }
     // Kinds.
     for kind in ["and", "or", "nand", "nor", "xor", "xnor"] {
-        both.expect_line(5, &format!("gate,{kind},5,6"), 0);
-        both.expect_line(5, &format!("gate,{kind},5,0"), 3);
-        both.expect_line(5, &format!("gate,{kind},5,7"), 4);
+        expect_line(&mut both, 5, &format!("gate,{kind},5,6"), 0);
+        expect_line(&mut both, 5, &format!("gate,{kind},5,0"), 3);
+        expect_line(&mut both, 5, &format!("gate,{kind},5,7"), 4);
     }
-    both.expect_line(5, "gate,not,6,0", 0);
-    both.expect_line(5, "gate,not,7,0", 4);
+    expect_line(&mut both, 5, "gate,not,6,0", 0);
+    expect_line(&mut both, 5, "gate,not,7,0", 4);
     for b in [1, 6, 7, 56, 57, 9999] {
-        both.expect_line(5, &format!("gate,not,6,{b}"), 3);
+        expect_line(&mut both, 5, &format!("gate,not,6,{b}"), 3);
     }
     for kind in [
         "", "an", "andd", "AND", "And", "no", "nott", "nan", "xorr", "nxor", "buf", "gate", "0",
         "not ",
     ] {
-        both.expect_line(5, &format!("gate,{kind},5,6"), 2);
-        both.expect_line(5, &format!("gate,{kind},5,0"), 2);
+        expect_line(&mut both, 5, &format!("gate,{kind},5,6"), 2);
+        expect_line(&mut both, 5, &format!("gate,{kind},5,0"), 2);
     }
     // Pairs of a fault.
     for (line, number) in [
@@ -728,8 +609,8 @@ fn each_sentence_on_the_text() {
         ("fault,5,1,6,1,7,1", 0),
         ("fault,6,1,7,1,8,1", 5),
     ] {
-        both.expect_line(7, line, number);
-        both.expect_line(8, line, number);
+        expect_line(&mut both, 7, line, number);
+        expect_line(&mut both, 8, line, number);
     }
     both.outcomes
         .assert_seen(&[(0, 25), (2, 300), (3, 10), (4, 8), (5, 2), (6, 10), (7, 8)]);
@@ -800,10 +681,10 @@ fn bad_lines(place: usize) -> &'static [(&'static str, u32)] {
 #[test]
 fn two_refusals_in_one_line() {
     // 2 before 3, then 4, 5, 6: the lines hold several of them at once.
-    let mut both = Both::new(24);
+    let mut both = Both::new(SEED + 24);
     for place in 1..=8 {
         for &(line, number) in bad_lines(place) {
-            both.expect_line(place, line, number);
+            expect_line(&mut both, place, line, number);
         }
     }
     both.outcomes
@@ -812,68 +693,22 @@ fn two_refusals_in_one_line() {
 
 #[test]
 fn two_refusals_in_two_lines() {
-    let mut both = Both::new(25);
-    for first in 1..=8 {
-        for &(line, number) in bad_lines(first) {
-            let text = with_line(LISTING, first, line);
-            for second in first + 1..=8 {
-                for (later, _) in bad_lines(second) {
-                    let text = String::from_utf8(text.clone()).expect("plain text");
-                    both.expect(&with_line(&text, second, later), (number, first));
-                }
-            }
-            // 7 goes last, 1 first, and both before 12 and 8.
-            for more in ["\n", "x", "fault,1,0\n"] {
-                both.expect(&[&text, more.as_bytes()].concat(), (number, first));
-            }
-            both.expect(&text[..text.len() - 1], {
-                // Without its end the last line is refused by 2.
-                let cut = if first == 8 { 2 } else { number };
-                (cut, first)
-            });
-            let mut long = text.clone();
-            long.resize(TEXT_LIMIT + 1, b'\n');
-            both.expect(&long, (1, 0));
-            both.expect(&long[..TEXT_LIMIT], (number, first));
-            for fault in [0, 3, u32::MAX] {
-                for room in [0, 7, 8] {
-                    let found = both.circuit(&text, fault, room);
-                    assert_eq!(found, (number, first), "{line}: fault {fault}, room {room}");
-                }
-            }
-        }
-    }
-    let text = LISTING.as_bytes();
-    for room in [0, 7, 8] {
-        for fault in [3, u32::MAX] {
-            assert_eq!(both.circuit(text, fault, room), (12, 0), "12 and 8");
-            let more = [text, b"\n"].concat();
-            assert_eq!(both.circuit(&more, fault, room), (7, 9), "7, 12 and 8");
-            let cut = &text[..text.len() - 1];
-            assert_eq!(both.circuit(cut, fault, room), (2, 8), "2, 12 and 8");
-            let long = vec![b'x'; TEXT_LIMIT + 1];
-            assert_eq!(both.circuit(&long, fault, room), (1, 0), "1, 12 and 8");
-        }
-        let due = (if room < 8 { 8 } else { 0 }, 0);
-        assert_eq!(both.circuit(text, 2, room), due);
-    }
+    let mut both = Both::new(SEED + 25);
+    both.two_refusals(LISTING, bad_lines, expect);
     both.outcomes.assert_seen(&[
-        (0, 1),
         (1, 100),
         (2, 1500),
         (3, 1000),
         (4, 500),
         (5, 50),
         (6, 50),
-        (7, 6),
-        (8, 2),
-        (12, 6),
+        (7, 4),
     ]);
 }
 
 #[test]
 fn lengths_around_the_limit() {
-    let mut both = Both::new(26);
+    let mut both = Both::new(SEED + 26);
     let wrapped = [1 << 16, (1 << 16) + LISTING.len(), 1 << 17];
     let lengths = [1, 2, 16_000, 16_382, 16_383, 16_384, 16_385, 16_386, 16_640];
     let starts = [
@@ -912,19 +747,19 @@ fn lengths_around_the_limit() {
         };
         let mut text = LISTING.repeat(200).into_bytes();
         text.truncate(length);
-        both.expect(&text, due((7, 9)));
+        expect(&mut both, &text, due((7, 9)));
         let mut text = LISTING.as_bytes()[..LISTING.len() - 1].to_vec();
         text.extend(b",1".repeat(length));
         text.truncate(length - 1);
         text.push(b'\n');
-        both.expect(&text, due((2, 8)));
+        expect(&mut both, &text, due((2, 8)));
     }
     both.outcomes.assert_seen(&[(1, 600), (2, 300), (7, 200)]);
 }
 
 #[test]
 fn texts_of_noise() {
-    let mut both = Both::new(27);
+    let mut both = Both::new(SEED + 27);
     let words = [
         "circuit", "gate", "output", "fault", "and", "not", "xor", ",", ",", ",", "\n", "\n", "0",
         "1", "2", "3", "8", "12", "-1", " ",
@@ -967,7 +802,7 @@ fn texts_of_noise() {
     }
     for length in 0..300 {
         for byte in [b'\n', b',', b'0', 0, 0xff, b'c'] {
-            both.expect(&vec![byte; length], (2, 1));
+            expect(&mut both, &vec![byte; length], (2, 1));
         }
     }
     both.outcomes.assert_seen(&[
@@ -984,50 +819,26 @@ fn texts_of_noise() {
 
 #[test]
 fn every_prefix_of_good_texts() {
-    let mut both = Both::new(28);
+    let mut both = Both::new(SEED + 28);
     let mut texts = vec![LISTING.as_bytes().to_vec(), PAIRS.as_bytes().to_vec()];
     texts.push(Draft::draw(&mut both.random, Sizes::LARGEST).text());
     for _ in 0..10 {
-        texts.push(both.draft().text());
+        let sizes = Sizes::draw(&mut both.random);
+        texts.push(Draft::draw(&mut both.random, sizes).text());
     }
     for text in &texts {
-        assert_eq!(both.settle([b"", text, b""], 1, 256), (0, 0));
-        for cut in 0..text.len() {
-            // The rest of the text stands after the prefix.
-            let (start, rest) = text.split_at(cut);
-            let lines = start.iter().filter(|&&byte| byte == b'\n').count();
-            let found = both.settle([b"", start, rest], 1, 256);
-            assert_eq!(found, (2, lines + 1), "{}", Shown(start));
-            if cut > 0 {
-                let found = both.settle([start, rest, b""], 1, 256);
-                assert_eq!(found, (2, 1), "{}", Shown(rest));
-            }
-        }
+        both.every_prefix(text);
     }
     both.outcomes.assert_seen(&[(0, 13), (2, 10_000)]);
 }
 
 #[test]
 fn every_byte_removed_changed_and_inserted() {
-    let mut both = Both::new(29);
+    let mut both = Both::new(SEED + 29);
     for text in [LISTING.as_bytes(), PAIRS.as_bytes()] {
-        for at in 0..=text.len() {
-            let (start, rest) = text.split_at(at);
-            if let Some((_, rest)) = rest.split_first() {
-                both.circuit(&[start, rest].concat(), 2, 256);
-            }
-            for byte in 0..=255 {
-                both.circuit(&[start, &[byte], rest].concat(), 2, 256);
-                if let Some((_, rest)) = rest.split_first() {
-                    both.circuit(&[start, &[byte], rest].concat(), 1, 256);
-                }
-            }
-        }
-        for at in 1..text.len() {
-            let mut text = text.to_vec();
-            text.swap(at - 1, at);
-            both.circuit(&text, 1, 256);
-        }
+        with_every_byte(text, |text| {
+            both.circuit(text, 1 + (text.len() % 2) as u32, 256);
+        });
     }
     both.outcomes.assert_seen(&[
         (0, 300),
@@ -1044,7 +855,7 @@ fn every_byte_removed_changed_and_inserted() {
 
 #[test]
 fn fields_by_hand() {
-    let mut both = Both::new(40);
+    let mut both = Both::new(SEED + 40);
     for (text, spans) in [
         ("", &[(0, 0)][..]),
         (",", &[(0, 0), (1, 0)]),
@@ -1058,12 +869,12 @@ fn fields_by_hand() {
     ] {
         for number in 0..spans.len() + 3 {
             let (start, length) = spans.get(number).copied().unwrap_or((text.len(), 0));
-            let found = both.field(text.as_bytes(), number);
+            let found = field(&mut both, text.as_bytes(), number);
             assert_eq!(found, Part { start, length }, "field {number} of {text:?}");
         }
         let (start, length) = (text.len(), 0);
         for number in [255, 256, 65_536, 1 << 32, usize::MAX - 1, usize::MAX] {
-            let found = both.field(text.as_bytes(), number);
+            let found = field(&mut both, text.as_bytes(), number);
             assert_eq!(found, Part { start, length }, "field {number} of {text:?}");
         }
     }
@@ -1071,7 +882,7 @@ fn fields_by_hand() {
 
 #[test]
 fn fields_of_random_texts() {
-    let mut both = Both::new(41);
+    let mut both = Both::new(SEED + 41);
     let (mut full, mut empty, mut beyond) = (0, 0, 0);
     for _ in 0..6000 {
         let length = both.random.below(60);
@@ -1085,7 +896,7 @@ fn fields_of_random_texts() {
         let count = 1 + text.iter().filter(|&&byte| byte == b',').count();
         let mut joined = Vec::new();
         for number in 0..count {
-            let Part { start, length } = both.field(&text, number);
+            let Part { start, length } = field(&mut both, &text, number);
             joined.push(&text[start..start + length]);
             full += usize::from(length > 0);
             empty += usize::from(length == 0);
@@ -1093,7 +904,7 @@ fn fields_of_random_texts() {
         assert_eq!(joined.join(&b','), text, "{}", Shown(&text));
         let far = (both.random.word() >> both.random.below(60)) as usize;
         for number in [count, count + 1, far, usize::MAX] {
-            both.field(&text, number);
+            field(&mut both, &text, number);
             beyond += usize::from(number >= count);
         }
     }
@@ -1105,24 +916,24 @@ fn fields_of_random_texts() {
 #[test]
 fn fields_of_long_texts() {
     // The field call has no limit of its own.
-    let mut both = Both::new(42);
+    let mut both = Both::new(SEED + 42);
     let commas = [b','; 70_000];
     let last = commas.len();
     for number in [0, 1, 255, 256, 16_384, 65_535, 65_536, last - 1, last] {
-        let found = both.field(&commas, number);
+        let found = field(&mut both, &commas, number);
         assert_eq!((found.start, found.length), (number, 0), "field {number}");
     }
     for number in [last + 1, 2 * last, usize::MAX] {
-        let found = both.field(&commas, number);
+        let found = field(&mut both, &commas, number);
         assert_eq!((found.start, found.length), (last, 0), "field {number}");
     }
     for (number, due) in [(0, (0, 70_000)), (1, (70_000, 0))] {
-        let found = both.field(&[b'\n'; 70_000], number);
+        let found = field(&mut both, &[b'\n'; 70_000], number);
         assert_eq!((found.start, found.length), due, "field {number}");
     }
     let text = LISTING.repeat(300);
     for _ in 0..200 {
         let number = both.random.below(8000);
-        both.field(text.as_bytes(), number);
+        field(&mut both, text.as_bytes(), number);
     }
 }

@@ -3,195 +3,44 @@
 //! report, with noise in and around all that is lent. Then what follows from the
 //! paper's definitions without it.
 
-use differential::lent::{lend_text, surround, Lent, Shown};
-use differential::library::{self, Signature, Written};
-use differential::outcomes::{answer, Outcomes};
+use differential::both::Both;
+use differential::calls::{library_plan, library_report, of_labels, refused};
+use differential::lent::Shown;
+use differential::library;
 use second::circuits::{
     largest_report, near_labels, with_line, worst_search, Draft, Sizes, Sketch, DAMAGES, LISTING,
     SILENT_FAULT, TWO_OUTPUTS,
 };
-use second::netlist::{self, TEXT_LIMIT};
-use second::plan::{self, Spectra, CAP_LIMIT, WORKING_NUMBERS};
-use second::random::Random;
-use second::report::{self, REPORT_ROOM};
-use second::walsh::Refusal;
-use std::collections::BTreeSet;
+use second::devices;
+use second::lines::TEXT_LIMIT;
+use second::plan::{Spectra, CAP_LIMIT, WORKING_NUMBERS};
+use second::table_texts::draw_changing;
 
 const SEED: u64 = 0x504c_414e_5300_0000;
 
-/// Lengths of the working buffer; the first four are too short.
-const WORKING_LENGTHS: [usize; 8] = [0, 1, 2_304, 4_607, 4_608, 4_609, 5_000, 9_216];
-/// Lengths of the report's buffer; the first four are too short.
-const ROOMS: [usize; 7] = [0, 1, 670, 1_023, 1_024, 1_025, 3_000];
-
-/// What the plan call gives back that ends in this result.
-fn plan_of(result: &Result<Vec<usize>, Refusal>) -> Signature {
-    let refused = answer(result);
-    let mut labels = [0; CAP_LIMIT];
-    let found = result.as_deref().unwrap_or_default();
-    for (place, &label) in labels.iter_mut().zip(found) {
-        *place = label as u32;
-    }
-    Signature {
-        number: refused.number,
-        place: refused.place,
-        size: found.len(),
-        labels,
-    }
-}
-
-/// How many working numbers may have been used.
-fn used(number: u32) -> usize {
-    match number {
-        0 | 13 | 14 => WORKING_NUMBERS,
-        _ => 0,
-    }
-}
-
-/// The number in a refusal line; 0 for a plan.
-fn reported_number(report: &[u8]) -> u32 {
-    let report = std::str::from_utf8(report).expect("plain text");
-    match report.strip_prefix("refused,") {
-        Some(rest) => {
-            let (number, _) = rest.split_once(',').expect("a place");
-            number.parse().expect("a number")
-        }
-        None => 0,
-    }
-}
-
-/// Both implementations, the noise for lent buffers, how often each outcome
-/// and each size of a plan came, and which fault was the first silent one.
-struct Both {
-    random: Random,
-    outcomes: Outcomes,
-    sizes: [usize; CAP_LIMIT + 1],
-    silent: BTreeSet<usize>,
-}
-
-impl Both {
-    fn new(subject: u64) -> Self {
-        Both {
-            random: Random::new(SEED + subject),
-            outcomes: Outcomes::default(),
-            sizes: [0; CAP_LIMIT + 1],
-            silent: BTreeSet::new(),
+/// Circuits of random parities without silent faults.
+fn sketch(both: &mut Both, inputs: usize, cap: usize) -> Draft {
+    loop {
+        let draft = Sketch::draw(&mut both.random, inputs).draft(cap);
+        if let Some(draft) = draft.without_silent() {
+            return draft;
         }
     }
+}
 
-    /// The plan call with a working buffer of this length.
-    fn plan_with(&mut self, text: &[u8], working: usize) -> Signature {
-        let case = format_args!("{working} working numbers, {}", Shown(text));
-        let due = plan_of(&plan::plan(text, working));
-        let mut work = Lent::new(working, || self.random.noise() as u32);
-        let texts = surround(&mut self.random, text);
-        let found = lend_text(case, texts, |text| library::plan(text, work.part()));
-        assert_eq!(found, due, "{case}: left what came back, right what is due");
-        work.assert_kept(used(found.number), case);
-        self.outcomes.note(found.number);
-        match found.number {
-            0 => self.sizes[found.size] += 1,
-            13 => {
-                self.silent.insert(found.place);
-            }
-            _ => {}
+/// A drawn circuit without silent faults.
+fn changing_draft(both: &mut Both, inputs: usize) -> Draft {
+    loop {
+        let drawn = Sizes::draw(&mut both.random);
+        let draft = Draft::draw(&mut both.random, Sizes { inputs, ..drawn });
+        if let Some(draft) = draft.without_silent() {
+            return draft;
         }
-        found
-    }
-
-    fn plan(&mut self, text: &[u8]) -> Signature {
-        self.plan_with(text, WORKING_NUMBERS)
-    }
-
-    /// The report call with buffers of these lengths; gives the report's bytes.
-    fn report_with(&mut self, text: &[u8], room: usize, working: usize) -> Vec<u8> {
-        let case = format_args!("room {room}, {working} working numbers, {}", Shown(text));
-        let due = report::report(text, room, working);
-        let mut work = Lent::new(working, || self.random.noise() as u32);
-        let mut out = Lent::new(room, || self.random.noise() as u8);
-        let texts = surround(&mut self.random, text);
-        let found = lend_text(case, texts, |text| {
-            library::report(text, out.part(), work.part())
-        });
-        let number = answer(&due).number;
-        let bytes = due.unwrap_or_default();
-        let written = Written {
-            number,
-            bytes: bytes.len(),
-        };
-        assert_eq!(
-            found, written,
-            "{case}: left what came back, right what is due"
-        );
-        out.assert_holds(&bytes, case);
-        let outcome = match number {
-            0 => reported_number(&bytes),
-            _ => number,
-        };
-        work.assert_kept(used(outcome), case);
-        self.outcomes.note(outcome);
-        bytes
-    }
-
-    fn report(&mut self, text: &[u8]) -> Vec<u8> {
-        self.report_with(text, REPORT_ROOM, WORKING_NUMBERS)
-    }
-
-    /// Asserts that these sizes of plans came so often at least.
-    #[track_caller]
-    fn assert_sizes(&self, least: [usize; CAP_LIMIT]) {
-        for (size, least) in (1..).zip(least) {
-            let seen = self.sizes[size];
-            assert!(seen >= least, "{size} labels: {seen} times only");
-        }
-    }
-
-    /// Circuits of random parities without silent faults.
-    fn sketch(&mut self, inputs: usize, cap: usize) -> Draft {
-        loop {
-            let draft = Sketch::draw(&mut self.random, inputs).draft(cap);
-            if let Some(draft) = draft.without_silent() {
-                return draft;
-            }
-        }
-    }
-
-    /// A drawn circuit without silent faults.
-    fn changing_draft(&mut self, inputs: usize) -> Draft {
-        loop {
-            let drawn = Sizes::draw(&mut self.random);
-            let draft = Draft::draw(&mut self.random, Sizes { inputs, ..drawn });
-            if let Some(draft) = draft.without_silent() {
-                return draft;
-            }
-        }
-    }
-
-    fn cap(&mut self) -> usize {
-        1 + self.random.below(CAP_LIMIT)
     }
 }
 
-/// The library's plan, without the second implementation.
-fn library_plan(text: &[u8]) -> Signature {
-    library::plan(text, &mut vec![7; WORKING_NUMBERS])
-}
-
-/// The library's report, without the second implementation.
-fn library_report(text: &[u8]) -> String {
-    let mut out = vec![b'x'; REPORT_ROOM];
-    let found = library::report(text, &mut out, &mut vec![7; WORKING_NUMBERS]);
-    assert_eq!(found.number, 0, "{}", Shown(text));
-    String::from_utf8(out[..found.bytes].to_vec()).expect("plain text")
-}
-
-/// A plan of these labels.
-fn of_labels(labels: &[usize]) -> Signature {
-    plan_of(&Ok(labels.to_vec()))
-}
-
-fn refused(number: u32, place: usize) -> Signature {
-    plan_of(&Err(Refusal { number, place }))
+fn draw_cap(both: &mut Both) -> usize {
+    1 + both.random.below(CAP_LIMIT)
 }
 
 /// The labels in the order, by its rule.
@@ -237,12 +86,12 @@ fn examples_of_the_paper() {
 
 #[test]
 fn every_label_alone() {
-    let mut both = Both::new(1);
+    let mut both = Both::new(SEED + 1);
     for inputs in 1..=8 {
         for label in 0..1 << inputs {
             let weight = 1 + both.random.below(15);
             let sketch = Sketch::complemented(inputs, &[label], &[weight]);
-            let cap = both.cap();
+            let cap = draw_cap(&mut both);
             let found = both.plan(&sketch.draft(cap).text());
             assert_eq!(found, of_labels(&[label]), "{inputs} inputs");
         }
@@ -252,7 +101,7 @@ fn every_label_alone() {
 
 #[test]
 fn of_two_labels_the_first_in_the_order() {
-    let mut both = Both::new(2);
+    let mut both = Both::new(SEED + 2);
     for inputs in 1..=8 {
         let order = ordered(&(0..1 << inputs).collect::<Vec<_>>());
         let mut pairs: Vec<[usize; 2]> = order.windows(2).map(|two| [two[0], two[1]]).collect();
@@ -278,7 +127,7 @@ fn of_two_labels_the_first_in_the_order() {
 #[test]
 fn parities_within_the_cap_and_beyond() {
     // Each fault has one label, so the plan is all of them or none.
-    let mut both = Both::new(3);
+    let mut both = Both::new(SEED + 3);
     for inputs in 1..=8 {
         for count in 1..=7.min(1 << inputs) {
             for cap in 1..=CAP_LIMIT {
@@ -311,7 +160,7 @@ fn parities_within_the_cap_and_beyond() {
 #[test]
 fn each_fault_decides() {
     // One fault needs a label that no other one needs.
-    let mut both = Both::new(4);
+    let mut both = Both::new(SEED + 4);
     for count in 2..=32 {
         for place in 0..count {
             let inputs = 1 + both.random.below(5);
@@ -335,7 +184,7 @@ fn each_fault_decides() {
 
 #[test]
 fn circuits_as_they_are_drawn() {
-    let mut both = Both::new(10);
+    let mut both = Both::new(SEED + 10);
     for round in 0..1600 {
         let drawn = Sizes::draw(&mut both.random);
         let sizes = Sizes {
@@ -356,9 +205,9 @@ fn circuits_as_they_are_drawn() {
 
 #[test]
 fn circuits_without_silent_faults() {
-    let mut both = Both::new(11);
+    let mut both = Both::new(SEED + 11);
     for round in 0..1200 {
-        let text = both.changing_draft(1 + round % 8).text();
+        let text = changing_draft(&mut both, 1 + round % 8).text();
         both.plan(&text);
         both.report(&text);
     }
@@ -368,10 +217,10 @@ fn circuits_without_silent_faults() {
 
 #[test]
 fn circuits_of_parities() {
-    let mut both = Both::new(12);
+    let mut both = Both::new(SEED + 12);
     for round in 0..3600 {
-        let cap = both.cap();
-        let text = both.sketch(1 + round % 6, cap).text();
+        let cap = draw_cap(&mut both);
+        let text = sketch(&mut both, 1 + round % 6, cap).text();
         both.plan(&text);
         both.report(&text);
     }
@@ -381,12 +230,12 @@ fn circuits_of_parities() {
 
 #[test]
 fn circuits_of_parities_with_many_labels() {
-    let mut both = Both::new(13);
+    let mut both = Both::new(SEED + 13);
     for round in 0..240 {
         // Three of 256 labels, or four of 128, are tried in little time.
         let inputs = 7 + round % 2;
         let cap = 1 + both.random.below(if inputs == 7 { 4 } else { 3 });
-        let text = both.sketch(inputs, cap).text();
+        let text = sketch(&mut both, inputs, cap).text();
         both.plan(&text);
     }
     both.outcomes.assert_seen(&[(0, 100), (14, 30)]);
@@ -395,7 +244,7 @@ fn circuits_of_parities_with_many_labels() {
 
 #[test]
 fn four_labels_of_every_count_of_inputs() {
-    let mut both = Both::new(14);
+    let mut both = Both::new(SEED + 14);
     for inputs in 2..=7 {
         for _ in 0..12 {
             let labels = near_labels(&mut both.random, inputs, 4);
@@ -412,7 +261,7 @@ fn four_labels_of_every_count_of_inputs() {
 
 #[test]
 fn searches_through_all_labels() {
-    let mut both = Both::new(15);
+    let mut both = Both::new(SEED + 15);
     let worst = worst_search();
     let largest = Sizes::LARGEST;
     assert_eq!(worst.sizes, largest);
@@ -439,7 +288,7 @@ fn searches_through_all_labels() {
 
 /// The masks of the labels below 2^N, from the circuit call's coefficients.
 fn masks(text: &[u8], faults: usize, labels: usize) -> Vec<u32> {
-    let spectrum = |fault| netlist::circuit(text, fault, labels).expect("a good circuit");
+    let spectrum = |fault| devices::circuit(text, fault, labels).expect("a good circuit");
     let sound = spectrum(0);
     let mut masks = vec![0; labels];
     for fault in 1..=faults {
@@ -451,18 +300,16 @@ fn masks(text: &[u8], faults: usize, labels: usize) -> Vec<u32> {
     masks
 }
 
-#[test]
-fn no_subset_of_the_labels_goes_before() {
-    let mut both = Both::new(20);
+/// Asserts that the library's plan of each drawn text is the first of all sets
+/// within the cap.
+fn assert_no_subset_goes_before(
+    subject: u64,
+    draw: impl Fn(&mut Both, usize, usize) -> Draft,
+) -> Both {
+    let mut both = Both::new(SEED + subject);
     for round in 0..600 {
         let inputs = 1 + round % 4;
-        let draft = match round % 3 {
-            0 => both.changing_draft(inputs),
-            _ => {
-                let cap = both.cap();
-                both.sketch(inputs, cap)
-            }
-        };
+        let draft = draw(&mut both, round, inputs);
         let text = draft.text();
         let found = library_plan(&text);
         both.outcomes.note(found.number);
@@ -489,17 +336,38 @@ fn no_subset_of_the_labels_goes_before() {
             None => assert_eq!(found, refused(14, 0), "{case}"),
         }
     }
+    both
+}
+
+#[test]
+fn no_subset_of_the_labels_goes_before() {
+    let both = assert_no_subset_goes_before(20, |both, round, inputs| match round % 3 {
+        0 => changing_draft(both, inputs),
+        _ => {
+            let cap = draw_cap(both);
+            sketch(both, inputs, cap)
+        }
+    });
     both.outcomes.assert_seen(&[(0, 350), (14, 80)]);
     both.assert_sizes([150, 60, 20, 4]);
 }
 
 #[test]
+fn no_subset_goes_before_in_tables() {
+    let both = assert_no_subset_goes_before(23, |both, _, inputs| {
+        draw_changing(&mut both.random, inputs)
+    });
+    both.outcomes.assert_seen(&[(0, 500), (14, 20)]);
+    both.assert_sizes([400, 20, 0, 0]);
+}
+
+#[test]
 fn labels_are_in_order_and_cover_each_fault() {
-    let mut both = Both::new(21);
+    let mut both = Both::new(SEED + 21);
     for round in 0..1500 {
         let inputs = 1 + round % 8;
         let cap = 1 + both.random.below(if inputs < 7 { 4 } else { 3 });
-        let draft = both.sketch(inputs, cap);
+        let draft = sketch(&mut both, inputs, cap);
         let text = draft.text();
         let found = library_plan(&text);
         both.outcomes.note(found.number);
@@ -517,8 +385,7 @@ fn labels_are_in_order_and_cover_each_fault() {
         assert!(labels.iter().all(|&label| label < 1 << inputs), "{found:?}");
         let keys: Vec<_> = labels.iter().map(|l| (l.count_ones(), *l)).collect();
         assert!(keys.windows(2).all(|two| two[0] < two[1]), "{found:?}");
-        let netlist = netlist::parse(&text).expect("a good circuit");
-        let spectra = Spectra::of(&netlist);
+        let spectra = Spectra::of(&devices::parse(&text).expect("a good circuit"));
         for fault in 0..draft.sizes.faults {
             assert!(
                 labels.iter().any(|&label| spectra.covers(label, fault)),
@@ -534,29 +401,10 @@ fn labels_are_in_order_and_cover_each_fault() {
 
 #[test]
 fn caps_and_the_order_of_faults() {
-    // The cap only cuts off, and the set does not depend on how the faults
-    // stand or how often.
-    let mut both = Both::new(22);
+    let mut both = Both::new(SEED + 22);
     for round in 0..500 {
-        let inputs = 1 + round % 6;
-        let draft = both.sketch(inputs, CAP_LIMIT);
-        let found = both.plan(&draft.text());
-        for cap in 1..CAP_LIMIT {
-            let due = match found.number == 0 && found.size <= cap {
-                true => found,
-                false => refused(14, 0),
-            };
-            assert_eq!(both.plan(&draft.with_cap(cap).text()), due, "cap {cap}");
-        }
-        let mut faults = draft.faults().to_vec();
-        for at in (1..faults.len()).rev() {
-            faults.swap(at, both.random.below(at + 1));
-        }
-        let shuffled = draft.with_faults(&faults, CAP_LIMIT);
-        assert_eq!(both.plan(&shuffled.text()), found, "shuffled");
-        let repeated: Vec<_> = faults.iter().cycle().take(32).cloned().collect();
-        let repeated = draft.with_faults(&repeated, CAP_LIMIT);
-        assert_eq!(both.plan(&repeated.text()), found, "repeated");
+        let draft = sketch(&mut both, 1 + round % 6, CAP_LIMIT);
+        both.caps_and_orders(&draft);
     }
     both.outcomes.assert_seen(&[(0, 1500), (14, 500)]);
     both.assert_sizes([600, 300, 100, 30]);
@@ -566,7 +414,7 @@ fn caps_and_the_order_of_faults() {
 
 #[test]
 fn silent_faults_at_each_place() {
-    let mut both = Both::new(30);
+    let mut both = Both::new(SEED + 30);
     let listing = Draft {
         sizes: Sizes {
             inputs: 3,
@@ -614,7 +462,7 @@ fn silent_faults_at_each_place() {
 #[test]
 fn silent_goes_before_no_set() {
     // Five faults of one label each with a cap of four, and a silent one.
-    let mut both = Both::new(31);
+    let mut both = Both::new(SEED + 31);
     for inputs in 3..=5 {
         let labels = near_labels(&mut both.random, inputs, 5);
         let draft = Sketch::paired(inputs, &labels, 2).draft(4);
@@ -664,16 +512,9 @@ fn texts_by_outcome() -> Vec<(Vec<u8>, u32)> {
 
 #[test]
 fn working_buffers_short_exact_and_longer() {
-    let mut both = Both::new(32);
+    let mut both = Both::new(SEED + 32);
     for (text, number) in texts_by_outcome() {
-        for working in WORKING_LENGTHS {
-            let due = match number {
-                0 | 13 | 14 if working < WORKING_NUMBERS => 8,
-                _ => number,
-            };
-            let found = both.plan_with(&text, working);
-            assert_eq!(found.number, due, "{working} working numbers");
-        }
+        both.working_buffers(&text, number);
     }
     let least: Vec<(u32, usize)> = (0..=8).chain(13..=14).map(|n| (n, 4)).collect();
     both.outcomes.assert_seen(&least);
@@ -681,11 +522,11 @@ fn working_buffers_short_exact_and_longer() {
 
 #[test]
 fn working_numbers_may_hold_anything() {
-    let mut both = Both::new(33);
+    let mut both = Both::new(SEED + 33);
     let mut left_over = vec![0; WORKING_NUMBERS];
     for round in 0..400 {
-        let cap = both.cap();
-        let text = both.sketch(1 + round % 6, cap).text();
+        let cap = draw_cap(&mut both);
+        let text = sketch(&mut both, 1 + round % 6, cap).text();
         let due = both.plan(&text);
         for fill in [0, 1, u32::MAX, 1 << 31] {
             let found = library::plan(&text, &mut vec![fill; WORKING_NUMBERS]);
@@ -700,12 +541,12 @@ fn working_numbers_may_hold_anything() {
 
 #[test]
 fn damaged_texts() {
-    let mut both = Both::new(34);
+    let mut both = Both::new(SEED + 34);
     for round in 0..500 {
-        let cap = both.cap();
+        let cap = draw_cap(&mut both);
         let draft = match round % 2 {
-            0 => both.sketch(1 + round % 5, cap),
-            _ => both.changing_draft(1 + round % 5),
+            0 => sketch(&mut both, 1 + round % 5, cap),
+            _ => changing_draft(&mut both, 1 + round % 5),
         };
         for damage in &DAMAGES {
             let text = (damage.apply)(&mut both.random, &draft);
@@ -732,7 +573,7 @@ fn damaged_texts() {
 
 #[test]
 fn every_byte_of_the_listing_changed() {
-    let mut both = Both::new(35);
+    let mut both = Both::new(SEED + 35);
     let listing = LISTING.as_bytes();
     for at in 0..listing.len() {
         both.plan(&listing[..at]);
@@ -758,18 +599,9 @@ fn every_byte_of_the_listing_changed() {
 
 #[test]
 fn buffers_of_the_report() {
-    let mut both = Both::new(40);
+    let mut both = Both::new(SEED + 40);
     for (text, number) in texts_by_outcome() {
-        for room in ROOMS {
-            for working in WORKING_LENGTHS {
-                let short = room < REPORT_ROOM || working < WORKING_NUMBERS;
-                let bytes = both.report_with(&text, room, working);
-                assert_eq!(bytes.is_empty(), short, "room {room}, {working}");
-                if !short {
-                    assert_eq!(reported_number(&bytes), number);
-                }
-            }
-        }
+        both.report_buffers(&text, number);
     }
     let least: Vec<(u32, usize)> = (0..=8).chain(13..=14).map(|n| (n, 12)).collect();
     both.outcomes.assert_seen(&least);
@@ -778,7 +610,7 @@ fn buffers_of_the_report() {
 #[test]
 fn the_largest_report() {
     // 7 bytes, four lines of 16, nine of 18 and 23 of 19.
-    let mut both = Both::new(41);
+    let mut both = Both::new(SEED + 41);
     let text = largest_report().text();
     let bytes = both.report(&text);
     assert_eq!(bytes.len(), 7 + 4 * 16 + 9 * 18 + 23 * 19);
@@ -789,14 +621,13 @@ fn the_largest_report() {
     assert!(report.ends_with("\nfault,32,224,-1440\n"));
 }
 
-#[test]
-fn reports_agree_with_the_plan_and_the_circuit_call() {
-    // Line by line, from the library's own plan and coefficients.
-    let mut both = Both::new(42);
+/// Asserts that reports are line by line what the library's own plan and
+/// coefficients say; gives how many faults the first label does not cover.
+fn assert_reports_agree(both: &mut Both, draw: impl Fn(&mut Both, usize) -> Draft) -> usize {
     let mut later = 0;
     for round in 0..600 {
         let inputs = 1 + round % 6;
-        let draft = both.sketch(inputs, CAP_LIMIT);
+        let draft = draw(both, inputs);
         let text = draft.text();
         let found = library_plan(&text);
         if found.number != 0 {
@@ -834,9 +665,29 @@ fn reports_agree_with_the_plan_and_the_circuit_call() {
         assert_eq!(lines.next(), None);
         assert!(report.ends_with('\n'));
     }
+    later
+}
+
+#[test]
+fn reports_agree_with_the_plan_and_the_circuit_call() {
+    let mut both = Both::new(SEED + 42);
+    let later = assert_reports_agree(&mut both, |both, inputs| sketch(both, inputs, CAP_LIMIT));
     both.outcomes.assert_seen(&[(0, 300)]);
     assert!(
         later > 500,
+        "faults not covered by the first label: {later}"
+    );
+}
+
+#[test]
+fn reports_on_tables_agree_with_the_plan_and_the_circuit_call() {
+    let mut both = Both::new(SEED + 43);
+    let later = assert_reports_agree(&mut both, |both, inputs| {
+        draw_changing(&mut both.random, inputs).with_cap(CAP_LIMIT)
+    });
+    both.outcomes.assert_seen(&[(0, 500)]);
+    assert!(
+        later > 300,
         "faults not covered by the first label: {later}"
     );
 }

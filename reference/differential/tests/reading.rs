@@ -3,27 +3,21 @@
 //! the readings. The text stands between bytes that would carry it on. Then what
 //! follows from the paper's definitions without it.
 
-use differential::lent::{lend_text, surround, Shown};
+use differential::calls::{self, Bits, Comparison, Measured, CONSTRAINED, PLAIN, WEIGHTED};
+use differential::lent::Shown;
 use differential::library;
 use differential::outcomes::{written, Outcomes};
 use second::circuits::{
     with_line, Draft, Sizes, Sketch, DAMAGES, HALF_AND_A_ROW, LISTING, SILENT_FAULT,
     STUCK_INNER_LINE, STUCK_INPUTS, TWO_OUTPUTS, TWO_STUCK_INPUTS,
 };
-use second::netlist::{self, TEXT_LIMIT};
+use second::lines::TEXT_LIMIT;
+use second::netlist;
 use second::random::Random;
-use second::reading::{self, quotient, Reading};
-use second::walsh::Refusal;
+use second::reading::quotient;
 use std::collections::BTreeMap;
-use std::fmt;
 
 const SEED: u64 = 0x5245_4144_494e_4700;
-
-/// The cases of an answer, as the library numbers them.
-const REFUSED: u32 = 0;
-const PLAIN: u32 = 1;
-const WEIGHTED: u32 = 2;
-const CONSTRAINED: u32 = 3;
 
 /// x1x5 or x4 and not x2x3: input 5 stands for the opened line.
 const OPENED: &str = "circuit,5,5,1,2,1\n\
@@ -36,112 +30,6 @@ const SEVEN_ROWS: &str = "circuit,4,11,1,1,1\n\
     gate,not,3,0\ngate,and,4,8\ngate,nand,1,2\ngate,and,9,10\n\
     gate,and,2,3\ngate,and,4,12\n\
     gate,or,7,11\ngate,or,13,14\noutput,15,1\nfault,15,1\n";
-
-/// A reading by its bits, so that -0 is not 0 and NaN is equal to itself.
-#[derive(Clone, Copy, PartialEq, Eq, PartialOrd, Ord)]
-struct Bits(u64);
-
-impl Bits {
-    fn of(value: f64) -> Bits {
-        Bits(value.to_bits())
-    }
-}
-
-impl fmt::Debug for Bits {
-    fn fmt(&self, f: &mut fmt::Formatter) -> fmt::Result {
-        write!(f, "{:#018x} ({:?})", self.0, f64::from_bits(self.0))
-    }
-}
-
-/// What the reading call gives back.
-#[derive(Clone, Copy, Debug, PartialEq, Eq)]
-struct Measured {
-    number: u32,
-    kind: u32,
-    fixed: u32,
-    place: usize,
-    value: Bits,
-}
-
-impl Measured {
-    fn new(kind: u32, fixed: u32, value: Bits) -> Measured {
-        Measured {
-            number: 0,
-            kind,
-            fixed,
-            place: 0,
-            value,
-        }
-    }
-
-    fn refused(number: u32, place: usize) -> Measured {
-        Measured {
-            number,
-            place,
-            ..Measured::new(REFUSED, 0, Bits(0))
-        }
-    }
-
-    fn found(found: library::Measured) -> Measured {
-        Measured {
-            number: found.number,
-            kind: found.kind,
-            fixed: found.fixed,
-            place: found.place,
-            value: Bits::of(found.value),
-        }
-    }
-
-    fn due(reading: Reading) -> Measured {
-        match reading {
-            Reading::PlainSyndrome { bits } => Measured::new(PLAIN, 0, Bits(bits)),
-            Reading::WeightedSum { bits } => Measured::new(WEIGHTED, 0, Bits(bits)),
-            Reading::Constrained { bits, fixed } => Measured::new(CONSTRAINED, fixed, Bits(bits)),
-            Reading::Refused(refusal) => Measured::refused(refusal.number, refusal.place),
-        }
-    }
-}
-
-/// What the pair call gives back: sound, faulty and difference.
-#[derive(Clone, Copy, Debug, PartialEq, Eq)]
-struct Comparison {
-    number: u32,
-    place: usize,
-    readings: [Bits; 3],
-}
-
-impl Comparison {
-    fn new(readings: [Bits; 3]) -> Comparison {
-        Comparison {
-            number: 0,
-            place: 0,
-            readings,
-        }
-    }
-
-    fn refused(number: u32, place: usize) -> Comparison {
-        Comparison {
-            number,
-            place,
-            readings: [Bits(0); 3],
-        }
-    }
-
-    fn found(found: library::Comparison) -> Comparison {
-        Comparison {
-            number: found.number,
-            place: found.place,
-            readings: [found.sound, found.faulty, found.difference].map(Bits::of),
-        }
-    }
-
-    fn due(pair: Result<reading::Pair, Refusal>) -> Comparison {
-        match pair {
-            Ok(pair) => Comparison::new([pair.sound, pair.faulty, pair.difference].map(Bits)),
-            Err(refusal) => Comparison::refused(refusal.number, refusal.place),
-        }
-    }
-}
 
 /// Both implementations, what stands around the texts, and how often each
 /// outcome, each case, each number of fixed inputs and each sign of a
@@ -166,12 +54,7 @@ impl Both {
     }
 
     fn reading(&mut self, text: &[u8], mask: u32, values: u32) -> Measured {
-        let case = format_args!("mask {mask}, values {values}, {}", Shown(text));
-        let texts = surround(&mut self.random, text);
-        let found = lend_text(case, texts, |text| library::reading(text, mask, values));
-        let found = Measured::found(found);
-        let due = Measured::due(reading::reading(text, mask, values));
-        assert_eq!(found, due, "{case}: left what came back, right what is due");
+        let found = calls::reading(&mut self.random, text, mask, values);
         self.outcomes.note(found.number);
         self.kinds[found.kind as usize] += 1;
         if found.number == 0 {
@@ -181,15 +64,7 @@ impl Both {
     }
 
     fn pair(&mut self, text: &[u8], fault: u32, mask: u32, values: u32) -> Comparison {
-        let case = format_args!(
-            "fault {fault}, mask {mask}, values {values}, {}",
-            Shown(text)
-        );
-        let texts = surround(&mut self.random, text);
-        let found = lend_text(case, texts, |text| library::pair(text, fault, mask, values));
-        let found = Comparison::found(found);
-        let due = Comparison::due(reading::pair(text, fault, mask, values));
-        assert_eq!(found, due, "{case}: left what came back, right what is due");
+        let found = calls::pair(&mut self.random, text, fault, mask, values);
         self.outcomes.note(found.number);
         if found.number == 0 {
             self.fixed[mask.count_ones() as usize] += 1;

@@ -2,11 +2,14 @@
 //! report on standard output, and on standard error only what could not be read
 //! or written. The gate has built it before these tests run.
 
-use second::circuits::{with_line, Draft, Sizes, DAMAGES, LISTING};
-use second::netlist::TEXT_LIMIT;
+use second::circuits::{with_line, Damage, Draft, Sizes, DAMAGES, LISTING};
+use second::lines::TEXT_LIMIT;
 use second::plan::WORKING_NUMBERS;
 use second::random::Random;
 use second::report::{self, REPORT_ROOM};
+use second::table_texts::{
+    draw, draw_changing, largest, ANOTHER_MARK, MARK_DAMAGES, SHORT_MARKS, SILENT_INPUT, SMALL,
+};
 use std::fs::File;
 use std::io::{ErrorKind, Write};
 use std::os::fd::OwnedFd;
@@ -86,6 +89,22 @@ fn the_listing() {
 }
 
 #[test]
+fn small_tables() {
+    for (text, due) in [
+        (SMALL, "plan,1\nlabel,0,5\nfault,1,0,2\nfault,2,0,6\n"),
+        (SILENT_INPUT, "refused,13,1\n"),
+        (ANOTHER_MARK, "refused,15,2\n"),
+        (SHORT_MARKS, "refused,2,2\n"),
+    ] {
+        for size in [1, text.len()] {
+            let pieces: Vec<&[u8]> = text.as_bytes().chunks(size).collect();
+            let written = run(&pieces, Duration::from_millis(1));
+            assert_eq!(String::from_utf8_lossy(&written), due, "{text}");
+        }
+    }
+}
+
+#[test]
 fn no_input() {
     assert_eq!(run(&[], Duration::ZERO), b"refused,2,1\n");
 }
@@ -132,6 +151,29 @@ fn circuits_sound_and_damaged() {
         let damage = &DAMAGES[random.below(DAMAGES.len())];
         let text = (damage.apply)(&mut random, &draft);
         assert_reports_at_once(damage.name, &text);
+    }
+}
+
+#[test]
+fn tables_sound_and_damaged() {
+    let mut random = Random::new(SEED + 1);
+    let damages: Vec<&Damage> = DAMAGES.iter().chain(&MARK_DAMAGES).collect();
+    assert_reports_at_once("largest", &largest().text());
+    for round in 0..64 {
+        let inputs = 1 + round % 8;
+        let draft = match round % 3 {
+            0 => draw(&mut random, inputs),
+            _ => draw_changing(&mut random, inputs),
+        };
+        assert_reports_at_once("drawn", &draft.text());
+        let damage = random.pick(&damages);
+        let text = (damage.apply)(&mut random, &draft);
+        assert_reports_at_once(damage.name, &text);
+    }
+    for length in [TEXT_LIMIT, TEXT_LIMIT + 1] {
+        let mut text = SMALL.as_bytes().to_vec();
+        text.resize(length, b'-');
+        assert_reports_at_once("padded", &text);
     }
 }
 
@@ -192,6 +234,7 @@ fn a_failed_read_ends_the_input() {
 #[test]
 fn usual_causes_of_refusals() {
     let with = |place, line| with_line(LISTING, place, line);
+    let table = |place, line| with_line(SMALL, place, line);
     let text = |text: String| text.into_bytes();
     for (cause, text, refused) in [
         (
@@ -257,6 +300,36 @@ fn usual_causes_of_refusals() {
             "7,9",
         ),
         ("a fault too many", with(1, "circuit,3,4,1,1,2"), "7,8"),
+        ("a table in upper case", table(1, "Table,2,2,1"), "2,1"),
+        ("a table's three numbers", table(1, "table,2,2"), "2,1"),
+        ("a circuit's numbers", table(1, "table,2,0,1,2,1"), "2,1"),
+        ("a row left out", table(2, "01-"), "2,2"),
+        ("a row too many", table(2, "01-11"), "2,2"),
+        ("N of another table", table(1, "table,3,2,1"), "2,2"),
+        ("commas between marks", table(2, "0,1,-,1"), "2,2"),
+        ("spaces between marks", table(2, "0 1 - 1"), "2,2"),
+        ("marks over two lines", table(2, "01\n-1"), "2,2"),
+        ("marks with CR LF", table(2, "01-1\r"), "2,2"),
+        ("a long dash", table(2, "01\u{2013}1"), "2,2"),
+        ("no line of marks", text("table,2,2,1\n".into()), "2,2"),
+        ("x for a free row", table(2, "01x1"), "15,2"),
+        ("2 for a free row", table(2, "0121"), "15,2"),
+        ("a letter for a digit", table(2, "O1-1"), "15,2"),
+        ("a comma for a mark", table(2, "0,-1"), "15,2"),
+        ("a space for a mark", table(2, "0 -1"), "15,2"),
+        ("CR for a mark", table(2, "01-\r"), "15,2"),
+        ("a line above N", table(3, "fault,3,0"), "5,3"),
+        ("an output in a table", table(3, "output,1,1"), "2,3"),
+        (
+            "a fault too few for a table",
+            table(1, "table,2,3,1"),
+            "2,5",
+        ),
+        (
+            "a fault too many for a table",
+            table(1, "table,2,1,1"),
+            "7,4",
+        ),
     ] {
         let written = String::from_utf8(run(&[&text], Duration::ZERO)).expect("a report");
         assert_eq!(written, format!("refused,{refused}\n"), "{cause}");

@@ -5,6 +5,7 @@ use differential::library;
 use second::circuits::{largest_report, worst_search};
 use second::plan::WORKING_NUMBERS;
 use second::report::REPORT_ROOM;
+use second::table_texts::largest;
 use std::thread;
 
 const STACK: usize = 64 * 1024;
@@ -35,24 +36,42 @@ fn calls_on_lists_within_64_kib() {
     assert_eq!(number(move || library::coefficient(&ones, 2047).number), 0);
 }
 
-#[test]
-fn calls_on_texts_within_64_kib() {
-    let text = largest_report().text();
+/// The circuit call under fault 32 and the report call.
+fn assert_reported(text: Vec<u8>) {
     let (lent, mut out) = (text.clone(), vec![0; 256]);
-    assert_eq!(
-        number(move || library::circuit(&lent, 32, &mut out).number),
-        0
-    );
-    let (lent, mut working) = (text.clone(), vec![0; WORKING_NUMBERS]);
-    let mut out = vec![0; REPORT_ROOM];
-    let report = move || library::report(&lent, &mut out, &mut working).number;
+    let circuit = move || library::circuit(&lent, 32, &mut out).number;
+    assert_eq!(number(circuit), 0);
+    let (mut out, mut working) = (vec![0; REPORT_ROOM], vec![0; WORKING_NUMBERS]);
+    let report = move || {
+        let written = library::report(&text, &mut out, &mut working);
+        assert!(out.starts_with(b"plan,4\n"), "{written:?}");
+        written.number
+    };
     assert_eq!(number(report), 0);
-    let (worst, mut working) = (worst_search().text(), vec![0; WORKING_NUMBERS]);
-    assert_eq!(
-        number(move || library::plan(&worst, &mut working).number),
-        14
-    );
+}
+
+/// The plan call on this text.
+fn planned(text: Vec<u8>) -> u32 {
+    let mut working = vec![0; WORKING_NUMBERS];
+    number(move || library::plan(&text, &mut working).number)
+}
+
+#[test]
+fn calls_on_circuits_within_64_kib() {
+    let text = largest_report().text();
+    assert_reported(text.clone());
+    assert_eq!(planned(worst_search().text()), 14);
     let lent = text.clone();
     assert_eq!(number(move || library::reading(&lent, 0, 0).number), 0);
     assert_eq!(number(move || library::pair(&text, 32, 0, 0).number), 0);
+}
+
+#[test]
+fn calls_on_tables_within_64_kib() {
+    let text = largest().text();
+    assert_reported(text.clone());
+    assert_eq!(planned(text.clone()), 0);
+    let lent = text.clone();
+    assert_eq!(number(move || library::reading(&lent, 0, 0).number), 2);
+    assert_eq!(number(move || library::pair(&text, 32, 0, 0).number), 2);
 }

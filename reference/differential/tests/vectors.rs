@@ -5,8 +5,10 @@
 
 use differential::outcomes::Outcomes;
 use second::circuits::LISTING;
-use second::netlist::{self, TEXT_LIMIT};
+use second::devices::{self, Device};
+use second::lines::TEXT_LIMIT;
 use second::plan::CAP_LIMIT;
+use second::tables::is_table;
 use second::vectors::{cases, path, stored, Case};
 use std::collections::BTreeSet;
 use std::io::Write;
@@ -26,7 +28,7 @@ fn stored_cases_are_those_of_today() {
         file == stored(),
         "run `cargo run --release --offline --locked --bin vectors`"
     );
-    assert!(file.len() < 740_000, "{} bytes", file.len());
+    assert!(file.len() < 900_000, "{} bytes", file.len());
     // What the program `vectors` has room for.
     for case in CASES.iter() {
         assert!(case.list.len() <= 2_056 && case.due.len() <= 25_000);
@@ -109,13 +111,19 @@ fn cut_files_differ() {
     }
 }
 
-/// Each listed outcome of the call came at least so often, and no other came.
-fn assert_seen(call: &str, least: &[(u32, usize)]) {
+/// How often each outcome of the call came on texts that are chosen.
+fn seen(call: &str, chosen: fn(&[u8]) -> bool) -> Outcomes {
     let mut outcomes = Outcomes::default();
-    for case in CASES.iter().filter(|case| case.call == call) {
+    let of_call = CASES.iter().filter(|case| case.call == call);
+    for case in of_call.filter(|case| chosen(&case.text)) {
         outcomes.note(case.number);
     }
-    outcomes.assert_seen(least);
+    outcomes
+}
+
+/// Each listed outcome of the call came at least so often, and no other came.
+fn assert_seen(call: &str, least: &[(u32, usize)]) {
+    seen(call, |_| true).assert_seen(least);
 }
 
 #[test]
@@ -135,9 +143,9 @@ fn stored_cases_are_of_every_call_and_outcome() {
     }
     let of_text: Vec<(u32, usize)> = (2..=7).map(|number| (number, 4)).collect();
     let texts: [(&str, &[(u32, usize)]); 4] = [
-        ("circuit", &[(0, 40), (8, 10), (12, 20)]),
-        ("plan", &[(0, 20), (8, 5), (13, 5), (14, 5)]),
-        ("reading", &[(0, 80), (12, 10)]),
+        ("circuit", &[(0, 40), (8, 10), (12, 20), (15, 4)]),
+        ("plan", &[(0, 20), (8, 5), (13, 5), (14, 5), (15, 4)]),
+        ("reading", &[(0, 80), (1, 1), (12, 10)]),
         ("pair", &[(0, 30), (12, 30)]),
     ];
     for (call, least) in texts {
@@ -199,42 +207,94 @@ fn stored_examples_come_first() {
     assert_eq!(due(24), "answer,10,0\nleft,-99999999,-99999999\n");
 }
 
-#[test]
-fn stored_reports_are_of_every_kind() {
-    let reports: Vec<&Case> = CASES.iter().filter(|case| case.call == "report").collect();
-    assert!(reports.iter().any(|case| case.text == LISTING.as_bytes()));
-    let mut outcomes = Outcomes::default();
-    let mut sizes = [0; CAP_LIMIT + 1];
-    let mut inputs = [0; 9];
-    let (mut many_faults, mut many_gates, mut negative, mut five_digits) = (0, 0, 0, 0);
-    for case in reports {
+/// How often each kind of report is stored.
+#[derive(Default)]
+struct Reports {
+    outcomes: Outcomes,
+    sizes: [usize; CAP_LIMIT + 1],
+    inputs: [usize; 9],
+    many_faults: usize,
+    many_gates: usize,
+    negative: usize,
+    five_digits: usize,
+}
+
+impl Reports {
+    /// Those on circuits, or on tables.
+    fn stored(on_tables: bool) -> Reports {
+        let mut reports = Reports::default();
+        let stored = CASES.iter().filter(|case| case.call == "report");
+        for case in stored.filter(|case| is_table(&case.text) == on_tables) {
+            reports.note(case);
+        }
+        reports
+    }
+
+    fn note(&mut self, case: &Case) {
         let report = std::str::from_utf8(&case.due).expect("plain text");
         if let Some(refusal) = report.strip_prefix("refused,") {
             let (number, _) = refusal.split_once(',').expect("a place");
-            outcomes.note(number.parse().expect("a number"));
+            self.outcomes.note(number.parse().expect("a number"));
         }
         let Some(plan) = report.strip_prefix("plan,") else {
-            continue;
+            return;
         };
-        outcomes.note(0);
-        sizes[usize::from(plan.as_bytes()[0] - b'0')] += 1;
-        let netlist = netlist::parse(&case.text).expect("a good circuit");
-        inputs[netlist.inputs] += 1;
-        many_faults += usize::from(netlist.faults.len() == 32);
-        many_gates += usize::from(netlist.gates.len() == 48);
+        self.outcomes.note(0);
+        self.sizes[usize::from(plan.as_bytes()[0] - b'0')] += 1;
+        let device = devices::parse(&case.text).expect("a good text");
+        self.inputs[device.inputs()] += 1;
+        self.many_faults += usize::from(device.faults().len() == 32);
+        if let Device::Circuit(netlist) = device {
+            self.many_gates += usize::from(netlist.gates.len() == 48);
+        }
         for line in report.lines() {
             let value = line.rsplit(',').next().expect("a field");
-            negative += usize::from(value.starts_with('-'));
-            five_digits += usize::from(value.len() == 5 && !value.starts_with('-'));
+            self.negative += usize::from(value.starts_with('-'));
+            self.five_digits += usize::from(value.len() == 5 && !value.starts_with('-'));
         }
     }
+}
+
+#[test]
+fn stored_reports_are_of_every_kind() {
+    let listing = |case: &Case| case.call == "report" && case.text == LISTING.as_bytes();
+    assert!(CASES.iter().any(listing));
+    let reports = Reports::stored(false);
     let mut least: Vec<(u32, usize)> = (2..=7).map(|number| (number, 10)).collect();
     least.extend([(0, 200), (1, 1), (13, 20), (14, 30)]);
-    outcomes.assert_seen(&least);
+    reports.outcomes.assert_seen(&least);
+    let (sizes, inputs) = (reports.sizes, reports.inputs);
     assert!(sizes[1..].iter().all(|&count| count >= 20), "{sizes:?}");
     assert!(inputs[1..].iter().all(|&count| count >= 20), "{inputs:?}");
-    assert!(many_faults >= 10, "32 faults: {many_faults}");
-    assert!(many_gates >= 10, "48 gates: {many_gates}");
+    let (faults, gates) = (reports.many_faults, reports.many_gates);
+    assert!(faults >= 10, "32 faults: {faults}");
+    assert!(gates >= 10, "48 gates: {gates}");
+    let (negative, five_digits) = (reports.negative, reports.five_digits);
     assert!(negative >= 200, "negative coefficients: {negative}");
     assert!(five_digits >= 20, "five digits: {five_digits}");
+}
+
+#[test]
+fn stored_reports_on_tables_are_of_every_kind() {
+    let reports = Reports::stored(true);
+    let mut least: Vec<(u32, usize)> = [2, 3, 5, 6, 7].map(|number| (number, 8)).into();
+    least.extend([(0, 40), (1, 1), (13, 8), (14, 10), (15, 14)]);
+    reports.outcomes.assert_seen(&least);
+    let (sizes, inputs) = (reports.sizes, reports.inputs);
+    assert!(sizes[1..].iter().all(|&count| count >= 3), "{sizes:?}");
+    assert!(inputs[1..].iter().all(|&count| count >= 3), "{inputs:?}");
+    assert!(reports.many_faults >= 1, "32 faults");
+    assert!(reports.negative >= 10, "{} negative", reports.negative);
+}
+
+/// The reading and the pair call take no table, good or damaged.
+#[test]
+fn stored_cases_on_tables_are_of_every_call_and_outcome() {
+    let of_text: Vec<(u32, usize)> = [2, 3, 5, 6, 7, 15].map(|number| (number, 4)).into();
+    let circuit = [(0, 20), (8, 5), (12, 10)];
+    seen("circuit", is_table).assert_seen(&[&of_text[..], &circuit].concat());
+    let plan = [(0, 10), (8, 5), (13, 3), (14, 2)];
+    seen("plan", is_table).assert_seen(&[&of_text[..], &plan].concat());
+    seen("reading", is_table).assert_seen(&[(1, 1), (2, 40)]);
+    seen("pair", is_table).assert_seen(&[(2, 40)]);
 }

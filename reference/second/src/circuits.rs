@@ -1,7 +1,10 @@
 //! Circuit texts: the paper's, random ones of every size, ones whose faults
-//! have chosen labels, and ways to damage them.
+//! have chosen labels, and ways to damage them. Drafts and damages serve tables
+//! too.
 
-use crate::netlist::{self, KINDS, LINE_LIMIT};
+use crate::devices;
+use crate::lines::LINE_LIMIT;
+use crate::netlist::KINDS;
 use crate::plan::CAP_LIMIT;
 use crate::random::Random;
 use std::collections::BTreeMap;
@@ -59,7 +62,7 @@ pub(crate) const EXAMPLES: [&str; 6] = [
 
 /// The text with its line `place` replaced.
 pub fn with_line(text: &str, place: usize, line: &str) -> Vec<u8> {
-    let mut lines: Vec<&str> = text.lines().collect();
+    let mut lines: Vec<&str> = text.split_terminator('\n').collect();
     lines[place - 1] = line;
     (lines.join("\n") + "\n").into_bytes()
 }
@@ -97,6 +100,14 @@ impl Sizes {
     fn numbers(&self) -> [usize; 5] {
         [self.inputs, self.gates, self.outputs, self.faults, self.cap]
     }
+
+    /// The first line of a text with this word.
+    pub(crate) fn head(&self, word: &str) -> Vec<String> {
+        match word {
+            "table" => fields(word, &[self.inputs, self.faults, self.cap]),
+            _ => fields(word, &self.numbers()),
+        }
+    }
 }
 
 /// A text as lines of fields, so that each field can be found and moved.
@@ -109,7 +120,7 @@ pub struct Draft {
 impl Draft {
     /// A good circuit: every rule of the text is kept.
     pub fn draw(random: &mut Random, sizes: Sizes) -> Draft {
-        let mut lines = vec![fields("circuit", &sizes.numbers())];
+        let mut lines = vec![sizes.head("circuit")];
         let last = sizes.inputs + sizes.gates;
         for own in sizes.inputs + 1..=last {
             let kind = random.pick(&KINDS).0;
@@ -131,11 +142,7 @@ impl Draft {
         }
         for _ in 0..sizes.faults {
             let stuck = stuck_lines(random, sizes, &outputs);
-            let mut numbers = Vec::new();
-            for line in stuck {
-                numbers.extend([line, random.below(2)]);
-            }
-            lines.push(fields("fault", &numbers));
+            lines.push(fault_fields(random, &stuck));
         }
         Draft { sizes, lines }
     }
@@ -154,7 +161,7 @@ impl Draft {
         &self.lines[self.lines.len() - self.sizes.faults..]
     }
 
-    /// The same circuit with these lines of faults, and the cap.
+    /// The same with these lines of faults, and the cap.
     pub fn with_faults(&self, faults: &[Vec<String>], cap: usize) -> Draft {
         let sizes = Sizes {
             faults: faults.len(),
@@ -163,7 +170,7 @@ impl Draft {
         };
         let kept = self.lines.len() - self.sizes.faults;
         let mut lines = self.lines[..kept].to_vec();
-        lines[0] = fields("circuit", &sizes.numbers());
+        lines[0] = sizes.head(&lines[0][0]);
         lines.extend_from_slice(faults);
         Draft { sizes, lines }
     }
@@ -174,16 +181,16 @@ impl Draft {
 
     /// The lines of the faults that are not silent.
     pub fn changing_faults(&self) -> Vec<Vec<String>> {
-        let netlist = netlist::parse(&self.text()).expect("a good circuit");
-        let sound = netlist.rows(0);
+        let device = devices::parse(&self.text()).expect("a good text");
+        let sound = device.rows(0);
         (1..)
             .zip(self.faults())
-            .filter(|&(fault, _)| netlist.rows(fault) != sound)
+            .filter(|&(fault, _)| device.rows(fault) != sound)
             .map(|(_, line)| line.clone())
             .collect()
     }
 
-    /// The same circuit without its silent faults; none where all are silent.
+    /// The same without its silent faults; none where all are silent.
     pub fn without_silent(&self) -> Option<Draft> {
         let changing = self.changing_faults();
         (!changing.is_empty()).then(|| self.with_faults(&changing, self.sizes.cap))
@@ -197,9 +204,12 @@ impl Draft {
         }
     }
 
-    /// Line and field of a number, each line being as likely.
+    /// Line and field of a number, each line that has one being as likely.
     fn draw_number(&self, random: &mut Random) -> (usize, usize) {
-        let line = random.below(self.lines.len());
+        let lines: Vec<usize> = (0..self.lines.len())
+            .filter(|&line| self.first_number(line) < self.lines[line].len())
+            .collect();
+        let line = random.pick(&lines);
         (line, self.draw_number_of(random, line))
     }
 
@@ -221,10 +231,10 @@ impl Draft {
     /// The range of a number as the paper gives it.
     fn range(&self, line: usize, field: usize) -> (usize, usize) {
         match (self.lines[line][0].as_str(), field) {
-            ("circuit", 1) => (1, 8),
+            ("circuit" | "table", 1) => (1, 8),
             ("circuit", 2) => (0, 48),
-            ("circuit", 4) => (1, 32),
-            ("circuit", _) => (1, 4),
+            ("circuit", 4) | ("table", 2) => (1, 32),
+            ("circuit" | "table", _) => (1, 4),
             ("gate", 3) if self.lines[line][1] == "not" => (0, 0),
             ("output", 2) => (1, 15),
             ("fault", 2 | 4 | 6) => (0, 1),
@@ -232,7 +242,7 @@ impl Draft {
         }
     }
 
-    /// The first line of the circuit that this line of the text may not name.
+    /// The first line or input that this line of the text may not name.
     fn bound(&self, line: usize) -> usize {
         match self.lines[line][0].as_str() {
             "gate" => self.sizes.inputs + line,
@@ -241,7 +251,7 @@ impl Draft {
     }
 
     /// Moves a number to an end of its range or past it, to an end of what
-    /// this circuit has, or spoils how it is written.
+    /// there is, or spoils how it is written.
     fn move_number(&mut self, random: &mut Random, line: usize, field: usize) {
         let (low, high) = self.range(line, field);
         let bound = self.bound(line);
@@ -271,10 +281,19 @@ impl Draft {
     }
 }
 
-fn fields(word: &str, numbers: &[usize]) -> Vec<String> {
+pub fn fields(word: &str, numbers: &[usize]) -> Vec<String> {
     let mut fields = vec![word.to_string()];
     fields.extend(numbers.iter().map(usize::to_string));
     fields
+}
+
+/// A fault that sticks each of the lines at a drawn value.
+pub(crate) fn fault_fields(random: &mut Random, stuck: &[usize]) -> Vec<String> {
+    let mut numbers = Vec::new();
+    for &line in stuck {
+        numbers.extend([line, random.below(2)]);
+    }
+    fields("fault", &numbers)
 }
 
 fn gate_fields(kind: &str, a: usize, b: usize) -> Vec<String> {
@@ -374,7 +393,7 @@ impl Sketch {
             faults: self.faults.len(),
             cap,
         };
-        let head = vec![fields("circuit", &sizes.numbers())];
+        let head = vec![sizes.head("circuit")];
         let lines = [&head, &self.gates, &self.outputs, &self.faults].map(|part| part.as_slice());
         Draft {
             sizes,
@@ -561,19 +580,11 @@ fn line_below(random: &mut Random, bound: usize) -> usize {
 fn stuck_lines(random: &mut Random, sizes: Sizes, outputs: &[usize]) -> Vec<usize> {
     let last = sizes.inputs + sizes.gates;
     let count = 1 + random.below(last.min(3));
-    let mut stuck = Vec::new();
-    while stuck.len() < count {
-        let line = match random.below(4) {
-            0 => 1 + random.below(sizes.inputs),
-            1 => random.pick(outputs),
-            _ => 1 + random.below(last),
-        };
-        if !stuck.contains(&line) {
-            stuck.push(line);
-        }
-    }
-    stuck.sort_unstable();
-    stuck
+    random.rising(count, |random| match random.below(4) {
+        0 => 1 + random.below(sizes.inputs),
+        1 => random.pick(outputs),
+        _ => 1 + random.below(last),
+    })
 }
 
 /// Any byte, or one that the format uses or nearly uses.
@@ -658,7 +669,7 @@ pub const DAMAGES: [Damage; 16] = [
         name: "a size moved",
         apply: |random, draft| {
             let mut draft = draft.clone();
-            let field = 1 + random.below(5);
+            let field = 1 + random.below(draft.lines[0].len() - 1);
             let size: usize = draft.lines[0][field].parse().expect("a size");
             draft.lines[0][field] = match random.below(3) {
                 0 => (size + 1).to_string(),
@@ -829,7 +840,7 @@ mod tests {
 
     /// The labels that cover each fault, in the order.
     fn covering(draft: &Draft) -> Vec<Vec<usize>> {
-        let spectra = Spectra::of(&parse(&draft.text()).expect("a good circuit"));
+        let spectra = Spectra::of(&devices::parse(&draft.text()).expect("a good circuit"));
         (0..draft.sizes.faults)
             .map(|fault| {
                 let mut labels = order(draft.sizes.inputs);

@@ -1,7 +1,7 @@
 //! The plan call, written from the paper's sentences and nothing else: every
 //! set is tried, over coefficients that are direct sums.
 
-use crate::netlist::{self, Netlist};
+use crate::devices::{self, Device};
 use crate::walsh::{self, refuse, test_room, Refusal};
 
 /// How many working numbers the plan and the report call get.
@@ -17,21 +17,21 @@ pub fn order(inputs: usize) -> Vec<usize> {
     labels
 }
 
-/// The coefficients of a circuit, sound and under each of its faults.
+/// The coefficients of a text, sound and under each of its faults.
 pub struct Spectra {
     pub sound: Vec<i32>,
     pub faulted: Vec<Vec<i32>>,
 }
 
 impl Spectra {
-    pub fn of(netlist: &Netlist) -> Spectra {
+    pub fn of(device: &Device) -> Spectra {
         let spectrum = |fault| {
-            let rows = netlist.rows(fault).expect("a fault of the circuit");
+            let rows = device.rows(fault).expect("a fault of the text");
             walsh::spectrum(&rows, rows.len()).expect("rows in range")
         };
         Spectra {
             sound: spectrum(0),
-            faulted: (1..=netlist.faults.len() as u32).map(spectrum).collect(),
+            faulted: (1..=device.faults().len() as u32).map(spectrum).collect(),
         }
     }
 
@@ -50,9 +50,9 @@ impl Spectra {
 }
 
 /// "the first silent fault", from 1: "no row's value differs under it".
-fn first_silent(netlist: &Netlist) -> Option<usize> {
-    let sound = netlist.rows(0);
-    (1..=netlist.faults.len()).find(|&fault| netlist.rows(fault as u32) == sound)
+fn first_silent(device: &Device) -> Option<usize> {
+    let sound = device.rows(0);
+    (1..=device.faults().len()).find(|&fault| device.rows(fault as u32) == sound)
 }
 
 /// The first way to choose `more` masks from `from` on that cover what is
@@ -84,13 +84,13 @@ pub struct Planned {
 
 /// Plans for a text; `working` is how many working numbers are lent.
 pub fn planned(text: &[u8], working: usize) -> Result<Planned, Refusal> {
-    let netlist = netlist::parse(text)?;
+    let device = devices::parse(text)?;
     test_room(working, WORKING_NUMBERS)?;
-    if let Some(fault) = first_silent(&netlist) {
+    if let Some(fault) = first_silent(&device) {
         return refuse(13, fault);
     }
-    let spectra = Spectra::of(&netlist);
-    match first_set(&spectra, &order(netlist.inputs), netlist.cap) {
+    let spectra = Spectra::of(&device);
+    match first_set(&spectra, &order(device.inputs()), device.cap()) {
         Some(labels) => Ok(Planned { labels, spectra }),
         None => refuse(14, 0),
     }
@@ -105,6 +105,7 @@ pub fn plan(text: &[u8], working: usize) -> Result<Vec<usize>, Refusal> {
 mod tests {
     use super::*;
     use crate::circuits::{with_line, LISTING, SILENT_FAULT, TWO_OUTPUTS};
+    use crate::table_texts::{ANOTHER_MARK, SILENT_INPUT, SMALL};
 
     #[test]
     fn order_of_the_labels() {
@@ -127,6 +128,9 @@ mod tests {
         let cap_of_two = with_line(TWO_OUTPUTS, 1, "circuit,2,4,2,2,2");
         assert_eq!(plan(&cap_of_two, working), Ok(vec![1, 2]));
         assert_eq!(plan(b"", working), refuse(2, 1));
+        assert_eq!(plan(SMALL.as_bytes(), working), Ok(vec![0]));
+        assert_eq!(plan(SILENT_INPUT.as_bytes(), working), refuse(13, 1));
+        assert_eq!(plan(ANOTHER_MARK.as_bytes(), working), refuse(15, 2));
     }
 
     #[test]

@@ -44,6 +44,23 @@ impl Random {
         from[self.below(from.len())]
     }
 
+    /// Different numbers, so many, as `draw` gives them; in rising order.
+    pub fn rising(
+        &mut self,
+        count: usize,
+        mut draw: impl FnMut(&mut Random) -> usize,
+    ) -> Vec<usize> {
+        let mut numbers = Vec::new();
+        while numbers.len() < count {
+            let number = draw(self);
+            if !numbers.contains(&number) {
+                numbers.push(number);
+            }
+        }
+        numbers.sort_unstable();
+        numbers
+    }
+
     /// `length` numbers from `-limit` to `limit`.
     pub fn list(&mut self, length: usize, limit: i32) -> Vec<i32> {
         (0..length).map(|_| self.between(-limit, limit)).collect()

@@ -118,7 +118,9 @@ pub fn pair(text: &[u8], fault: u32, mask: u32, values: u32) -> Result<Pair, Ref
 mod tests {
     use super::*;
     use crate::circuits::{with_line, HALF_AND_A_ROW, LISTING, STUCK_INPUTS, TWO_OUTPUTS};
+    use crate::lines::TEXT_LIMIT;
     use crate::netlist::CIRCUIT_LIMIT;
+    use crate::table_texts::{ANOTHER_MARK, SMALL};
     use crate::walsh::refuse;
 
     fn refused(number: u32, place: usize) -> Reading {
@@ -237,6 +239,24 @@ mod tests {
         for fault in [0, 3, 257, u32::MAX] {
             assert_eq!(pair(text, fault, 0, 0), refuse(12, 0));
             assert_eq!(pair(&text[1..], fault, 0, 0), refuse(2, 1));
+        }
+    }
+
+    #[test]
+    fn tables_are_not_read() {
+        let long = SMALL.to_string() + &"0".repeat(TEXT_LIMIT);
+        for (text, number, place) in [
+            (SMALL, 2, 1),
+            (ANOTHER_MARK, 2, 1),
+            ("table", 2, 1),
+            (&long[..TEXT_LIMIT], 2, 1),
+            (&long[..TEXT_LIMIT + 1], 1, 0),
+        ] {
+            let text = text.as_bytes();
+            for (fault, mask, values) in [(1, 0, 0), (1, 3, 1), (0, 0, 0), (9, 256, 1)] {
+                assert_eq!(reading(text, mask, values), refused(number, place));
+                assert_eq!(pair(text, fault, mask, values), refuse(number, place));
+            }
         }
     }
 }

@@ -7,7 +7,7 @@ use crate::walsh::{test_room, Refusal};
 pub const REPORT_ROOM: usize = 1_024;
 
 /// The report on a plan. `values` gives the coefficient at a label under a
-/// fault, and of the sound circuit for fault 0.
+/// fault, and the sound one for fault 0.
 pub fn lines(labels: &[usize], faults: usize, values: impl Fn(usize, usize) -> i32) -> String {
     let mut report = format!("plan,{}\n", labels.len());
     for &label in labels {
@@ -53,6 +53,7 @@ pub fn report(text: &[u8], room: usize, working: usize) -> Result<Vec<u8>, Refus
 mod tests {
     use super::*;
     use crate::circuits::{with_line, LISTING, SILENT_FAULT, TWO_OUTPUTS};
+    use crate::table_texts::{ANOTHER_MARK, SILENT_INPUT, SMALL};
     use crate::walsh::refuse;
 
     fn report_on(text: &[u8]) -> String {
@@ -70,11 +71,16 @@ mod tests {
         let due = "plan,2\nlabel,1,-2\nlabel,2,-2\nfault,1,1,2\nfault,2,2,2\n";
         assert_eq!(report_on(&cap_of_two), due);
         assert_eq!(report_on(b""), "refused,2,1\n");
+        let due = "plan,1\nlabel,0,5\nfault,1,0,2\nfault,2,0,6\n";
+        assert_eq!(report_on(SMALL.as_bytes()), due);
+        assert_eq!(report_on(SILENT_INPUT.as_bytes()), "refused,13,1\n");
+        assert_eq!(report_on(ANOTHER_MARK.as_bytes()), "refused,15,2\n");
     }
 
     #[test]
     fn short_buffers_go_before_all_else() {
-        for text in [LISTING.as_bytes(), SILENT_FAULT.as_bytes(), b"", b"x"] {
+        for text in [LISTING, SILENT_FAULT, "", "x", SMALL, ANOTHER_MARK] {
+            let text = text.as_bytes();
             assert_eq!(report(text, 1_023, 4_608), refuse(8, 0));
             assert_eq!(report(text, 1_024, 4_607), refuse(8, 0));
             assert_eq!(report(text, 0, 0), refuse(8, 0));

@@ -10,9 +10,12 @@
 
 mod examples;
 mod lists;
+mod tables;
 mod texts;
 mod uses;
 
+use crate::devices;
+use crate::lines;
 use crate::netlist;
 use crate::plan::{self, CAP_LIMIT, WORKING_NUMBERS};
 use crate::random::Random;
@@ -51,7 +54,7 @@ pub fn stored() -> Vec<u8> {
     cases().iter().flat_map(Case::bytes).collect()
 }
 
-/// All cases, the paper's examples first.
+/// All cases: the paper's examples first, those on tables last.
 pub fn cases() -> Vec<Case> {
     let texts = texts::texts(&mut Random::new(SEED));
     let mut random = Random::new(SEED + 1);
@@ -60,6 +63,7 @@ pub fn cases() -> Vec<Case> {
     cases.extend(reports.map(|text| Case::report(text, REPORT_ROOM, WORKING_NUMBERS)));
     cases.extend(lists::cases(&mut random));
     cases.extend(uses::cases(&mut random, &texts));
+    cases.extend(tables::cases(&mut Random::new(SEED + 2)));
     cases
 }
 
@@ -187,7 +191,7 @@ impl Case {
             first: vec![fault],
             ..Case::default()
         }
-        .lent(room, netlist::circuit(text, fault, room))
+        .lent(room, devices::circuit(text, fault, room))
     }
 
     pub fn plan(text: &[u8], working: usize) -> Case {
@@ -261,7 +265,7 @@ impl Case {
     }
 
     pub fn field(text: &[u8], number: u32) -> Case {
-        let (start, length) = netlist::field(text, number as usize);
+        let (start, length) = lines::field(text, number as usize);
         Case {
             call: "field",
             text: text.to_vec(),

@@ -1,4 +1,4 @@
-//! The samples in the repository's root: beside each circuit text stands the
+//! The samples in the repository's root: beside each text stands the
 //! report that is due on it.
 
 use second::plan::WORKING_NUMBERS;

@@ -1,17 +1,18 @@
--- The list call on the rows of a circuit refuses by 8 only.
+-- The list call on the rows of a device refuses by 8 only.
 use borrow.Author.Needs.{needs}
+use native.Mathlib.Omega.{arith}
 use mathlib.Core.List.{List}
 use mathlib.Core.Path.{_≡_, _∙_, subst}
 use denote.Ref.{now}
+use Prim.Native.Nat.{_≤_}
 use lib.IntN.{ℤ}
 use lib.ListN.{length}
-use Rattle.netlist.specs.Circuits.{netlistOf}
-use Rattle.simulation.specs.Rows.{rowsOf}
-use Rattle.simulation.proofs.RowBounds.{length-rows}
+use Rattle.devices.specs.Devices.{problemOf}
+use Rattle.devices.specs.Problems.{problemFrom, rowsAt}
 use Rattle.results.specs.Results.{leaves}
 use Rattle.walsh.specs.Lists.{spectrumAnswer}
 use Rattle.transform.specs.Spectrum.{spectrumOf}
-use Rattle.circuit.proofs.CircuitLaws.{spectrum-room}
+use Rattle.circuit.proofs.CircuitLaws.{spectrum-room, rows-fit}
 use Rattle.circuit.proofs.spectrum_by.Statement.{statement}
 use Rattle.circuit.proofs.spectrum_by.Tie as tie
 
@@ -28,15 +29,16 @@ same-length-2 : tie.Need-same-length-2
 same-length-2 c = search needs
 
 returns : tie.Need-returns
-unfolding netlistOf
+unfolding problemOf problemFrom
 returns c =
     let s = c .before .before .before .before .before .before .before in
-    let n = netlistOf (s .args .c) in
-    let list = rowsOf n (s .args .f) in
+    let p = problemOf (s .args .d) in
+    let list = rowsAt p (s .args .fault) in
     let room = length (now (s .args .out)) in
-    let q = s .pre in
+    let fit = s .pre .0 in
+    let named : s .args .fault ≤ length (p .faulted) = omega (arith, fit .faults-counted, s .pre .1) in
     let called = subst (λ (l : List ℤ). (c .before .spectrum .result ≡ spectrumAnswer l room) × (c .before .spectrum .last .1 .0 ≡ leaves (c .before .spectrum .result) (spectrumOf l) (now (s .args .out)))) (c .before .before .before .before .before .rows .ensures) (c .before .spectrum .ensures) in
-    (called .0 ∙ spectrum-room list (n .inputs) room (q .0 .1) (q .0 .0 .inputs) (length-rows n (s .args .f)) (q .1), called .1)
+    (called .0 ∙ spectrum-room list (p .inputs) room (fit .proper .inputs-low) (fit .proper .inputs-high) (fit .proper .rows-all (s .args .fault) named) (rows-fit p (fit .proper) (s .args .fault) named), called .1)
 
 pub spectrum-by-spec : {M : Type 1} → statement M
 spectrum-by-spec =

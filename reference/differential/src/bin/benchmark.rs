@@ -1,9 +1,10 @@
 //! Times the library's whole-list calls on 2,048 numbers against the second
 //! implementation's direct ones and, for the spectrum, a plain fast transform; then
 //! its circuit call against rows one by one and that transform, its plan and
-//! report calls against the same with a choice of labels that is cut short, its
-//! reading and pair calls against a plain mean of those rows, and the program
-//! `signature` on the listing, from its start to its end, against `report`.
+//! report calls on a circuit and on a table against the same with a choice of
+//! labels that is cut short, its reading and pair calls against a plain mean of
+//! those rows, and the program `signature` on the listing, from its start to its
+//! end, against `report`.
 
 use differential::{fast, library};
 use second::circuits::{worst_search, Draft, Sizes, LISTING};
@@ -11,8 +12,9 @@ use second::plan::{self, CAP_LIMIT, WORKING_NUMBERS};
 use second::random::Random;
 use second::reading::Reading;
 use second::report::{self, REPORT_ROOM};
+use second::table_texts;
 use second::walsh::ROW_LIMIT;
-use second::{netlist, reading, walsh};
+use second::{devices, netlist, reading, walsh};
 use std::hint::black_box;
 use std::io::Write;
 use std::path::{Path, PathBuf};
@@ -77,6 +79,39 @@ struct Race<'a> {
     others: Vec<Contender<'a>>,
 }
 
+/// The plan call on a text, with these working numbers.
+fn plan_race<'a>(name: &'static str, text: &'a [u8], working: &'a mut [u32]) -> Race<'a> {
+    Race {
+        name,
+        library: Contender::new("library", move || {
+            black_box(library::plan(black_box(text), black_box(working)));
+        }),
+        others: vec![Contender::new("masks, pruned choice", move || {
+            let _ = black_box(fast::plan(black_box(text), WORKING_NUMBERS));
+        })],
+    }
+}
+
+/// The report call on a text, with these buffers.
+fn report_race<'a>(
+    name: &'static str,
+    text: &'a [u8],
+    out: &'a mut [u8],
+    working: &'a mut [u32],
+) -> Race<'a> {
+    Race {
+        name,
+        library: Contender::new("library", move || {
+            let (out, working) = (black_box(&mut *out), black_box(&mut *working));
+            black_box(library::report(black_box(text), out, working));
+        }),
+        others: vec![Contender::new("masks, pruned choice", move || {
+            let text = black_box(text);
+            let _ = black_box(fast::report(text, REPORT_ROOM, WORKING_NUMBERS));
+        })],
+    }
+}
+
 /// What a program writes for a text on standard input.
 fn run(program: &Path, text: &[u8]) -> Vec<u8> {
     let mut child = Command::new(program)
@@ -111,14 +146,17 @@ fn main() {
     let text = Draft::draw(&mut random, Sizes::LARGEST).text();
     let faults = check_circuit(&text);
     let planned = planned_text(&mut random);
+    let table = table_texts::largest().text();
+    check_plan(&planned);
+    check_plan(&table);
     let worst = worst_search().text();
-    check_plans(&planned, &worst);
+    check_worst_search(&worst);
     check_readings(&text, faults);
     let [signature, plain_report] = &programs();
     check_programs(signature, plain_report);
 
     let (rows, spectrum, text) = (&rows[..], &spectrum[..], &text[..]);
-    let (planned, worst) = (&planned[..], &worst[..]);
+    let (planned, table, worst) = (&planned[..], &table[..], &worst[..]);
     // One buffer for each contender, so that none meets another's result.
     let mut buffers = vec![vec![0; LENGTH]; 7];
     let mut lend = buffers.iter_mut();
@@ -126,9 +164,10 @@ fn main() {
     let (to_spectrum, to_fast, to_rows) = (buffer(), buffer(), buffer());
     let (to_stuck, to_opened) = (buffer(), buffer());
     let (to_circuit, to_fast_circuit) = (buffer(), buffer());
-    let mut working = [(); 3].map(|_| vec![0; WORKING_NUMBERS]);
-    let [to_plan, to_search, to_report] = &mut working;
-    let to_bytes = &mut vec![0; REPORT_ROOM];
+    let mut working = [(); 5].map(|_| vec![0; WORKING_NUMBERS]);
+    let [to_plan, to_search, to_report, to_table_plan, to_table_report] = &mut working;
+    let mut bytes = [(); 2].map(|_| vec![0; REPORT_ROOM]);
+    let [to_bytes, to_table_bytes] = &mut bytes;
 
     let mut races = [
         Race {
@@ -198,29 +237,15 @@ fn main() {
                 }
             })],
         },
-        Race {
-            name: "plan, largest circuit",
-            library: Contender::new("library", move || {
-                black_box(library::plan(black_box(planned), black_box(to_plan)));
-            }),
-            others: vec![Contender::new("masks, pruned choice", move || {
-                let _ = black_box(fast::plan(black_box(planned), WORKING_NUMBERS));
-            })],
-        },
-        Race {
-            name: "report, largest circuit",
-            library: Contender::new("library", move || {
-                black_box(library::report(
-                    black_box(planned),
-                    black_box(to_bytes),
-                    black_box(to_report),
-                ));
-            }),
-            others: vec![Contender::new("masks, pruned choice", move || {
-                let planned = black_box(planned);
-                let _ = black_box(fast::report(planned, REPORT_ROOM, WORKING_NUMBERS));
-            })],
-        },
+        plan_race("plan, largest circuit", planned, to_plan),
+        report_race("report, largest circuit", planned, to_bytes, to_report),
+        plan_race("plan, largest table", table, to_table_plan),
+        report_race(
+            "report, largest table",
+            table,
+            to_table_bytes,
+            to_table_report,
+        ),
         Race {
             name: "reading, largest circuit",
             library: Contender::new("library", move || {
@@ -251,15 +276,7 @@ fn main() {
                 let _ = black_box(fast::pair(text, fault, black_box(0), black_box(0)));
             })],
         },
-        Race {
-            name: WORST_SEARCH,
-            library: Contender::new("library", move || {
-                black_box(library::plan(black_box(worst), black_box(to_search)));
-            }),
-            others: vec![Contender::new("masks, pruned choice", move || {
-                let _ = black_box(fast::plan(black_box(worst), WORKING_NUMBERS));
-            })],
-        },
+        plan_race(WORST_SEARCH, worst, to_search),
         Race {
             name: "signature, the listing",
             library: Contender::new("program", move || {
@@ -349,7 +366,7 @@ fn check_circuit(text: &[u8]) -> u32 {
     assert!(three_lines.count() > 0, "no fault has three lines");
     let faults = netlist.faults.len() as u32;
     for fault in 0..=faults {
-        let due = netlist::circuit(text, fault, CIRCUIT_LENGTH);
+        let due = devices::circuit(text, fault, CIRCUIT_LENGTH);
         let mut out = vec![0; CIRCUIT_LENGTH];
         assert_eq!(library::circuit(text, fault, &mut out).number, 0);
         assert_eq!(
@@ -378,8 +395,8 @@ fn planned_text(random: &mut Random) -> Vec<u8> {
     }
 }
 
-/// The same for plans and reports.
-fn check_plans(planned: &[u8], worst: &[u8]) {
+/// The same for the plan and the report on a text.
+fn check_plan(planned: &[u8]) {
     let working = &mut vec![0; WORKING_NUMBERS];
     let due = plan::plan(planned, WORKING_NUMBERS).expect("a plan");
     let found = library::plan(planned, working);
@@ -395,7 +412,11 @@ fn check_plans(planned: &[u8], worst: &[u8]) {
     assert_eq!(out[..due.len()], due, "the library's report differs");
     let fast_report = fast::report(planned, REPORT_ROOM, WORKING_NUMBERS);
     assert_eq!(fast_report, Ok(due));
+}
 
+/// The same where there is no plan.
+fn check_worst_search(worst: &[u8]) {
+    let working = &mut vec![0; WORKING_NUMBERS];
     assert_eq!(library::plan(worst, working).number, 14);
     assert_eq!(fast::plan(worst, WORKING_NUMBERS), walsh::refuse(14, 0));
 }

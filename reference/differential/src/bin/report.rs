@@ -1,4 +1,4 @@
-//! The program `signature` again, over this crate's fast plans: a circuit text
+//! The program `signature` again, over this crate's fast plans: a text
 //! on standard input, its report on standard output. For the benchmark.
 
 use differential::fast;

@@ -6,7 +6,7 @@ use super::Case;
 use crate::circuits::{
     with_line, LISTING, SILENT_FAULT, STUCK_INNER_LINE, STUCK_INPUTS, TWO_OUTPUTS, TWO_STUCK_INPUTS,
 };
-use crate::netlist::TEXT_LIMIT;
+use crate::lines::TEXT_LIMIT;
 use crate::plan::WORKING_NUMBERS;
 use crate::report::REPORT_ROOM;
 use crate::walsh::{self, rows_of};
@@ -35,7 +35,7 @@ fn unproved() -> Vec<Case> {
     let mut cases = every_call(b"", 2);
     // No circuit is so long: it is read, and its ninth line is one too many.
     for length in [TEXT_LIMIT, TEXT_LIMIT + 1] {
-        let text = padded(length);
+        let text = padded(LISTING, b'\n', length);
         cases.push(Case::report(&text, REPORT_ROOM, WORKING_NUMBERS));
     }
     cases.extend(every_call(&with_line(LISTING, 1, "circuit,8,4,1,2,2"), 256));

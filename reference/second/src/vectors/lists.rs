@@ -23,14 +23,8 @@ pub fn cases(random: &mut Random) -> Vec<Case> {
 /// One to three rising inputs of n, and their values.
 fn fault(random: &mut Random, n: usize) -> (Vec<u32>, Vec<u32>) {
     let count = 1 + random.below(n.min(3));
-    let mut inputs = Vec::new();
-    while inputs.len() < count {
-        let input = 1 + random.below(n) as u32;
-        if !inputs.contains(&input) {
-            inputs.push(input);
-        }
-    }
-    inputs.sort_unstable();
+    let inputs = random.rising(count, |random| 1 + random.below(n));
+    let inputs: Vec<u32> = inputs.into_iter().map(|input| input as u32).collect();
     let values = inputs.iter().map(|_| random.below(2) as u32).collect();
     (inputs, values)
 }

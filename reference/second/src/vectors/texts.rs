@@ -1,9 +1,10 @@
 //! Texts of every kind for the stored reports.
 
 use crate::circuits::{
-    largest_report, near_labels, with_line, worst_search, Draft, Sizes, Sketch, DAMAGES, EXAMPLES,
-    LISTING, TWO_OUTPUTS,
+    largest_report, near_labels, with_line, worst_search, Damage, Draft, Sizes, Sketch, DAMAGES,
+    EXAMPLES, LISTING, TWO_OUTPUTS,
 };
+use crate::devices;
 use crate::netlist::parse;
 use crate::plan::{plan, CAP_LIMIT, WORKING_NUMBERS};
 use crate::random::Random;
@@ -21,10 +22,10 @@ pub fn texts(random: &mut Random) -> Vec<Vec<u8>> {
     texts
 }
 
-/// The listing with line ends after it, up to this length.
-pub fn padded(length: usize) -> Vec<u8> {
-    let mut text = LISTING.as_bytes().to_vec();
-    text.resize(length, b'\n');
+/// The text with this byte after it, up to this length.
+pub fn padded(text: &str, filler: u8, length: usize) -> Vec<u8> {
+    let mut text = text.as_bytes().to_vec();
+    text.resize(length, filler);
     text
 }
 
@@ -44,7 +45,7 @@ fn chosen_texts() -> Vec<Vec<u8>> {
         with_line(LISTING, 1, "circuit,8,4,1,2,2"),
         with_line(LISTING, 1, "circuit,9,4,1,2,2"),
         listing[..listing.len() - 1].to_vec(),
-        padded(listing.len() + 1),
+        padded(LISTING, b'\n', listing.len() + 1),
         largest_report().text(),
         worst_search().text(),
     ]);
@@ -135,24 +136,38 @@ fn texts_by_outcome(random: &mut Random, inputs: usize) -> Vec<Vec<u8>> {
     texts
 }
 
-/// Damaged texts, some for each way in which lines are refused.
+/// Damaged circuits, some for each way in which lines are refused.
 fn damaged_texts(random: &mut Random) -> Vec<Vec<u8>> {
-    let mut texts = Vec::new();
-    let mut wanted = [0, 0, 14, 12, 12, 12, 12, 12];
-    for damage in DAMAGES.iter().cycle() {
+    let wanted = [(2, 14), (3, 12), (4, 12), (5, 12), (6, 12), (7, 12)];
+    damaged(random, &DAMAGES.each_ref(), &wanted, |random| {
         let sizes = Sizes {
             gates: random.below(8),
             faults: 1 + random.below(8),
             ..Sizes::draw(random)
         };
-        let draft = Draft::draw(random, sizes);
+        Draft::draw(random, sizes)
+    })
+}
+
+/// Drawn texts damaged until each of the numbers came so often.
+pub fn damaged(
+    random: &mut Random,
+    damages: &[&Damage],
+    wanted: &[(u32, usize)],
+    draw: impl Fn(&mut Random) -> Draft,
+) -> Vec<Vec<u8>> {
+    let mut texts = Vec::new();
+    let mut wanted = wanted.to_vec();
+    for damage in damages.iter().cycle() {
+        let draft = draw(random);
         let text = (damage.apply)(random, &draft);
-        let number = number_of(&parse(&text)) as usize;
-        if wanted[number] > 0 {
-            wanted[number] -= 1;
+        let number = number_of(&devices::parse(&text));
+        if let Some(left) = wanted.iter_mut().find(|left| left.0 == number) {
+            left.1 -= 1;
             texts.push(text);
         }
-        if wanted.iter().all(|&left| left == 0) {
+        wanted.retain(|left| left.1 > 0);
+        if wanted.is_empty() {
             break;
         }
     }

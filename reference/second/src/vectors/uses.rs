@@ -5,7 +5,7 @@ use super::Case;
 use crate::circuits::{
     with_line, Draft, Sizes, EXAMPLES, HALF_AND_A_ROW, LISTING, SILENT_FAULT, TWO_OUTPUTS,
 };
-use crate::netlist::parse;
+use crate::devices::parse;
 use crate::plan::WORKING_NUMBERS;
 use crate::random::Random;
 use crate::report::REPORT_ROOM;
@@ -26,8 +26,14 @@ pub fn cases(random: &mut Random, texts: &[Vec<u8>]) -> Vec<Case> {
     for text in [LISTING, TWO_OUTPUTS] {
         cases.extend(bad_fixtures(text.as_bytes()));
     }
-    cases.extend(short_buffers());
-    cases.extend(refused(texts));
+    cases.extend(short_buffers(&[
+        LISTING,
+        SILENT_FAULT,
+        TWO_OUTPUTS,
+        "",
+        "circuit",
+    ]));
+    cases.extend(refused(texts, &[2, 3, 4, 5, 6, 7]));
     cases.extend(plans(texts));
     cases.extend(fields());
     cases
@@ -47,10 +53,10 @@ fn drawn_text(random: &mut Random, inputs: usize) -> Vec<u8> {
 
 /// Every fault's number from 0 to Q + 1, and one far off; buffers short, exact
 /// and longer.
-fn faults(random: &mut Random, text: &[u8]) -> Vec<Case> {
-    let netlist = parse(text).expect("a good circuit");
-    let length = 1 << netlist.inputs;
-    let last = netlist.faults.len() as u32;
+pub fn faults(random: &mut Random, text: &[u8]) -> Vec<Case> {
+    let device = parse(text).expect("a good text");
+    let length = 1 << device.inputs();
+    let last = device.faults().len() as u32;
     let mut cases = Vec::new();
     for fault in 0..=last + 1 {
         cases.push(Case::circuit(text, fault, length));
@@ -71,8 +77,8 @@ fn faults(random: &mut Random, text: &[u8]) -> Vec<Case> {
 }
 
 /// Masks of no, all and some inputs.
-fn fixtures(random: &mut Random, text: &[u8]) -> Vec<Case> {
-    let inputs = parse(text).expect("a good circuit").inputs;
+pub fn fixtures(random: &mut Random, text: &[u8]) -> Vec<Case> {
+    let inputs = parse(text).expect("a good text").inputs();
     let all: u32 = (1 << inputs) - 1;
     let mut fixed = vec![(0, 0), (all, 0), (all, all), (1, 1), (1 << (inputs - 1), 0)];
     for _ in 0..2 {
@@ -87,7 +93,7 @@ fn fixtures(random: &mut Random, text: &[u8]) -> Vec<Case> {
 
 /// Masks and values out of range.
 fn bad_fixtures(text: &[u8]) -> Vec<Case> {
-    let all: u32 = (1 << parse(text).expect("a good circuit").inputs) - 1;
+    let all: u32 = (1 << parse(text).expect("a good circuit").inputs()) - 1;
     let mut cases = Vec::new();
     for (mask, values) in [
         (all + 1, 0),
@@ -107,9 +113,9 @@ fn bad_fixtures(text: &[u8]) -> Vec<Case> {
 }
 
 /// Buffers of the plan and the report call short, exact and longer.
-fn short_buffers() -> Vec<Case> {
+pub fn short_buffers(texts: &[&str]) -> Vec<Case> {
     let mut cases = Vec::new();
-    for text in [LISTING, SILENT_FAULT, TWO_OUTPUTS, "", "circuit"] {
+    for text in texts {
         let text = text.as_bytes();
         for working in [0, 1, WORKING_NUMBERS - 1, WORKING_NUMBERS, 4_700] {
             cases.push(Case::plan(text, working));
@@ -123,11 +129,11 @@ fn short_buffers() -> Vec<Case> {
     cases
 }
 
-/// Every call on texts that are refused, two short ones for each number, with
-/// arguments that would be refused too.
-fn refused(texts: &[Vec<u8>]) -> Vec<Case> {
+/// Every call on texts that are refused, two short ones for each of the numbers,
+/// with arguments that would be refused too.
+pub fn refused(texts: &[Vec<u8>], numbers: &[u32]) -> Vec<Case> {
     let mut cases = Vec::new();
-    for number in 2..=7 {
+    for &number in numbers {
         let kind = texts
             .iter()
             .filter(|text| text.len() < 200 && number_of(&parse(text)) == number);
@@ -143,7 +149,7 @@ fn refused(texts: &[Vec<u8>]) -> Vec<Case> {
 }
 
 /// Plans of some of the texts that have reports.
-fn plans(texts: &[Vec<u8>]) -> Vec<Case> {
+pub fn plans(texts: &[Vec<u8>]) -> Vec<Case> {
     let short = texts.iter().filter(|text| text.len() < 400);
     short
         .step_by(5)

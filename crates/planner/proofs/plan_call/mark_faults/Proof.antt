@@ -7,54 +7,51 @@ use denote.Ref.{now}
 use lib.ListN.{length}
 use Rattle.cover.specs.Order.{labelsBelow}
 use Rattle.cover.specs.Steps.{masksOf}
-use Rattle.integer.proofs.Tabs.{length-mapped}
-use Rattle.netlist.specs.Circuits.{netlistOf}
-use Rattle.simulation.specs.Rows.{rowsOf}
-use Rattle.netlist.proofs.Counts.{faults-counted}
-use Rattle.planner.specs.PlanCall.{soundRows, faultedRows}
+use Rattle.devices.specs.Devices.{problemOf}
+use Rattle.devices.specs.Problems.{problemFrom}
+use Rattle.devices.proofs.Fitting.{inputs-few}
 use Rattle.planner.proofs.PlanLaws.{MarkedBelow, Turn, marked-none, marked-silent, marked-one-more, marked-all, may-mark}
 use Rattle.planner.proofs.plan_call.mark_faults.Statement.{statement}
 use Rattle.planner.proofs.plan_call.mark_faults.Tie as tie
 
 abbrev Inv-loop : tie.InvT-loop
-Inv-loop c sound faulted₀ labels masks₀ inputs count f₀ faulted masks f =
-    (f ≤ count) × (count ≡ c .head .faults) × (inputs ≡ c .head .inputs) × (length faulted ≡ length faulted₀) × (length masks ≡ length masks₀) × MarkedBelow (netlistOf c) f masks
+Inv-loop d sound faulted₀ labels masks₀ inputs count f₀ faulted masks f =
+    (f ≤ count) × (count ≡ d .faults) × (inputs ≡ d .inputs) × (length faulted ≡ length faulted₀) × (length masks ≡ length masks₀) × MarkedBelow (problemOf d) f masks
 
 abbrev μ-loop : tie.MeasureT-loop
-μ-loop c sound faulted₀ labels masks₀ inputs count f₀ faulted masks f = count - f
+μ-loop d sound faulted₀ labels masks₀ inputs count f₀ faulted masks f = count - f
 
-count : (s : tie.Start Inv-loop μ-loop) → length (netlistOf (s .args .c) .faults) ≡ s .args .c .head .faults
-count s = faults-counted (s .args .c) (s .pre .0 .0) (search (needs, length-mapped))
-
-turn : (r : tie.After-mark-arg2 Inv-loop μ-loop) → Turn (netlistOf (r .before .before .before .before .before .before .before .before .before .before .before .before .before .before .before .args .c)) (r .before .before .before .before .before .before .before .loop .f) (r .before .before .before .before .before .before .before .loop .masks) (now (r .before .before .before .before .before .before .before .before .before .before .before .before .before .before .before .args .sound)) (r .before .before .before .rows .last .1 .1 .0) (now (r .before .before .before .before .before .before .before .before .before .before .before .before .before .before .before .args .labels))
-unfolding netlistOf
-turn r = record {
-  right = r .before .before .before .before .before .before .before .before .before .before .before .before .before .before .before .pre .0 .1;
-  low = omega (arith, count (r .before .before .before .before .before .before .before .before .before .before .before .before .before .before .before), r .before .before .before .before .before .before .loop-test .taken, r .before .before .before .before .before .before .before .loop .inv .1);
-  so-far = r .before .before .before .before .before .before .before .loop .inv .5;
-  sound-are = r .before .before .before .before .before .before .before .before .before .before .before .before .before .before .before .pre .1 .0;
-  labels-are = r .before .before .before .before .before .before .before .before .before .before .before .before .before .before .before .pre .1 .1;
-  faulted-are = r .before .before .before .rows .ensures ∙ ap (rowsOf (netlistOf (r .before .before .before .before .before .before .before .before .before .before .before .before .before .before .before .args .c))) (r .before .before .before .before .before .fault-at .ensures);
-}
+turn : (r : tie.After-mark-arg2 Inv-loop μ-loop) → let s = r .before .before .before .before .before .before .before .before .before .before .before .before .before .before in let l = r .before .before .before .before .before .before .loop in
+    Turn (problemOf (s .args .d)) (l .f) (l .masks) (now (s .args .sound)) (r .before .before .before .rows .last .1 .1 .0) (now (s .args .labels))
+unfolding problemOf problemFrom
+turn r =
+    let s = r .before .before .before .before .before .before .before .before .before .before .before .before .before .before in
+    let l = r .before .before .before .before .before .before .loop in
+    record {
+      right = s .pre .0 .0 .proper;
+      low = omega (arith, s .pre .0 .0 .faults-counted, r .before .before .before .before .before .loop-test .taken, l .inv .1);
+      so-far = l .inv .5;
+      sound-are = s .pre .1 .0;
+      labels-are = s .pre .1 .1;
+      faulted-are = r .before .before .before .rows .ensures;
+    }
 
 clear-requires : tie.Need-clear-requires Inv-loop μ-loop
 clear-requires c κs = search needs
 
 cast-inputs : tie.Need-cast-inputs Inv-loop μ-loop
-cast-inputs c = search needs
+cast-inputs c = let s = c .before .before .before .before .before .before .before in record { fits = omega (arith, inputs-few (s .args .d) (s .pre .0 .0)) }
 
 loop-holds : tie.Need-loop-holds Inv-loop μ-loop
-unfolding netlistOf
+unfolding problemOf problemFrom
 loop-holds c =
-    let a = c .before .before .before .before .before .before .before .args in
+    let s = c .before .before .before .before .before .before .before in
+    let a = s .args in
     let e = c .before .before .before .clear .ensures in
-    (search needs, search needs, search needs, search needs, search needs, marked-none (netlistOf (a .c)) (c .before .before .before .clear .last .0) (length (now (a .masks))) (c .before .before .before .before .before .before .before .pre .0 .3) e)
+    (search needs, search needs, search needs, search needs, search needs, marked-none (problemOf (a .d)) (s .pre .0 .0 .proper) (c .before .before .before .clear .last .0) (length (now (a .masks))) (s .pre .0 .2) e)
 
-add-fault-at : tie.Need-add-fault-at Inv-loop μ-loop
-add-fault-at c = search needs
-
-fault-at-requires : tie.Need-fault-at-requires Inv-loop μ-loop
-fault-at-requires c κs = search needs
+add-rows : tie.Need-add-rows Inv-loop μ-loop
+add-rows c = search needs
 
 rows-requires : tie.Need-rows-requires Inv-loop μ-loop
 rows-requires c κs = search needs
@@ -63,7 +60,7 @@ cast-mark : tie.Need-cast-mark Inv-loop μ-loop
 cast-mark c = search needs
 
 mark-requires : tie.Need-mark-requires Inv-loop μ-loop
-unfolding netlistOf
+unfolding problemOf problemFrom
 mark-requires c κs =
     may-mark (turn c)
 
@@ -74,7 +71,7 @@ same-length-2 : tie.Need-same-length-2 Inv-loop μ-loop
 same-length-2 c = search needs
 
 returns : tie.Need-returns Inv-loop μ-loop
-unfolding netlistOf
+unfolding problemOf problemFrom
 returns c =
     let r = c .before .before .before in
     (marked-silent (turn (r .before)) (sym (r .mark .ensures .0) ∙ c .if1 .taken), λ e. absurd (omega arith))
@@ -86,7 +83,7 @@ loop-less : tie.Need-loop-less Inv-loop μ-loop
 loop-less c = search needs
 
 loop-again : tie.Need-loop-again Inv-loop μ-loop
-unfolding netlistOf
+unfolding problemOf problemFrom
 loop-again c =
     let r = c .before .before .before in
     (search needs, search needs, search needs, search needs, search needs, marked-one-more (turn (r .before)) (r .mark .last .1 .1 .1 .1 .1 .0) (sym (r .mark .ensures .0) ∙ c .if1 .left) (r .mark .ensures .1 (c .if1 .left)))
@@ -98,12 +95,12 @@ same-length-4 : tie.Need-same-length-4 Inv-loop μ-loop
 same-length-4 c = search needs
 
 returns-2 : tie.Need-returns-2 Inv-loop μ-loop
-unfolding netlistOf
+unfolding problemOf problemFrom
 returns-2 c =
     let s = c .before .before .before .before .before .before .before .before .before in
     let l = c .before .loop in
-    let n = netlistOf (s .args .c) in
-    (marked-all n (l .f) (l .masks) (omega (arith, count s, c .loop-test .left, l .inv .0, l .inv .1)) (l .inv .5), λ e. l .inv .5 .marks ∙ ap (masksOf (soundRows n) (faultedRows n) (labelsBelow (2 ^ n .inputs))) e)
+    let p = problemOf (s .args .d) in
+    (marked-all p (l .f) (l .masks) (omega (arith, s .pre .0 .0 .faults-counted, c .loop-test .left, l .inv .0, l .inv .1)) (l .inv .5), λ e. l .inv .5 .marks ∙ ap (masksOf (p .sound) (p .faulted) (labelsBelow (2 ^ p .inputs))) e)
 
 pub mark-faults-spec : {M : Type 1} → statement M
 mark-faults-spec =
@@ -114,8 +111,7 @@ mark-faults-spec =
     clear-requires
     cast-inputs
     loop-holds
-    add-fault-at
-    fault-at-requires
+    add-rows
     rows-requires
     cast-mark
     mark-requires

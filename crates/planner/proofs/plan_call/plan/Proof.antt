@@ -1,15 +1,14 @@
--- The parser's answer decides; past its refusals, and 8, the circuit is planned.
+-- What the text describes decides; past its refusals, and 8, the device is planned.
 use borrow.Author.Needs.{needs}
 use denote.Ref.{now}
 use lib.ListN.{length}
-use Rattle.netlist.proofs.Acceptance.{accepted-right}
 use Rattle.planner.specs.PlanCall.{planAnswer}
 use Rattle.planner.proofs.PlanLaws.{verdict-text, verdict-room, verdict-served, kept}
 use Rattle.planner.proofs.plan_call.plan.Statement.{statement}
 use Rattle.planner.proofs.plan_call.plan.Tie as tie
 
-parse-requires : tie.Need-parse-requires
-parse-requires c κs = search needs
+describe-requires : tie.Need-describe-requires
+describe-requires c κs = search needs
 
 refuse-requires : tie.Need-refuse-requires
 refuse-requires c κs = search needs
@@ -18,8 +17,8 @@ returns : tie.Need-returns
 unfolding planAnswer
 returns c =
     let a = c .before .before .before .before .before .args in
-    let p = c .before .before .parse in
-    let v = verdict-text (now (a .text)) (length (now (a .work))) (p .result) (p .ensures .0) (c .before .if1 .taken) in
+    let r = c .before .before .describe in
+    let v = verdict-text (now (a .text)) (length (now (a .work))) (r .result) (r .ensures .0) (c .before .if1 .taken) in
     rw v (c .refuse .ensures, kept _ (now (a .work)))
 
 refuse-requires-2 : tie.Need-refuse-requires-2
@@ -29,15 +28,14 @@ returns-2 : tie.Need-returns-2
 unfolding planAnswer
 returns-2 c =
     let a = c .before .before .before .before .before .before .args in
-    let p = c .before .before .before .parse in
-    let v = verdict-room (now (a .text)) (length (now (a .work))) (p .result) (p .ensures .0) (c .before .before .if1 .left) (c .before .if2 .taken) in
+    let r = c .before .before .before .describe in
+    let v = verdict-room (now (a .text)) (length (now (a .work))) (r .result) (r .ensures .0) (c .before .before .if1 .left) (c .before .if2 .taken) in
     rw v (c .refuse2 .ensures, kept _ (now (a .work)))
 
-plan-circuit-requires : tie.Need-plan-circuit-requires
-plan-circuit-requires c κs =
-    let a = c .before .before .before .before .before .before .args in
-    let p = c .before .before .before .parse in
-    (p .ensures .1, accepted-right (now (a .text)) (p .result) (p .ensures .0) (c .before .before .if1 .left), c .before .if2 .left)
+plan-device-requires : tie.Need-plan-device-requires
+plan-device-requires c κs =
+    let r = c .before .before .before .describe in
+    (r .ensures .1 (c .before .before .if1 .left), c .before .if2 .left)
 
 same-length : tie.Need-same-length
 same-length c = search needs
@@ -46,19 +44,19 @@ returns-3 : tie.Need-returns-3
 unfolding planAnswer
 returns-3 c =
     let a = c .before .before .before .before .before .before .before .before .before .args in
-    let p = c .before .before .before .before .before .before .parse in
-    let v = verdict-served (now (a .text)) (length (now (a .work))) (p .result) (p .ensures .0) (c .before .before .before .before .before .if1 .left) (c .before .before .before .before .if2 .left) in
-    rw v (c .before .before .plan-circuit .ensures)
+    let r = c .before .before .before .before .before .before .describe in
+    let v = verdict-served (now (a .text)) (length (now (a .work))) (r .result) (r .ensures .0) (c .before .before .before .before .before .if1 .left) (c .before .before .before .before .if2 .left) in
+    rw v (c .before .before .plan-device .ensures)
 
 pub plan-spec : {M : Type 1} → statement M
 plan-spec =
     tie.close
     (tie.spec
-    parse-requires
+    describe-requires
     refuse-requires
     returns
     refuse-requires-2
     returns-2
-    plan-circuit-requires
+    plan-device-requires
     same-length
     returns-3)

@@ -1,0 +1,4 @@
+pub mod StuckPairs
+pub mod TableRows
+pub mod FreeRows
+pub mod Steps
