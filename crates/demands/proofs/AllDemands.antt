@@ -2,12 +2,15 @@
 --   demand-one      every refusal has its number and place, exactly where it holds, and writes nothing
 --   demand-two      spectra both ways, under faults too, and readings
 --   all-demands     these and planner's demand-three
+use mathlib.Core.Bool.{true, false, false≢true}
 use mathlib.Core.List.{List}
-use mathlib.Core.Path.{ap, _∙_}
-use mathlib.Core.Logic.{inl, inr, ⊎-elim}
+use mathlib.Core.Path.{_≡_, refl, sym, ap, _∙_, subst}
+use mathlib.Core.Logic.{_↔_, inl, inr, ⊎-elim}
 use Prim.Native.Nat.{ℕ}
 use Rattle.statements.proofs.FormsMeant.{head-form, gate-form, output-form, fault-form}
 use Rattle.statements.proofs.LineNumbers.{head-least, gate-least, output-least, fault-least}
+use Rattle.netlist.specs.Circuits.{Netlist}
+use Rattle.netlist.specs.Parsing.{Parse, accepted, rejected, parseOf}
 use Rattle.netlist.proofs.AcceptedTexts.{texts-exactly, accepted-short}
 use Rattle.netlist.proofs.Refusals.{one-exactly, line-exactly, seven-exactly, none-exactly, text-refused}
 use Rattle.walsh.specs.Lists.{spectrumAnswer, rowsAnswer}
@@ -18,10 +21,15 @@ use Rattle.planner.proofs.Demanded.{demand-three}
 use Rattle.text.specs.Text.{before, fieldOf, lineEnd, sameBytes}
 use Rattle.text.proofs.Words.{same-equal, same-self}
 use Rattle.tables.specs.TableLines.{tableWord, isTable}
+use Rattle.tables.specs.TableParsing.{TableParse, acceptedTable, rejectedTable, tableOf}
+use Rattle.tables.specs.Tables.{TruthTable}
 use Rattle.tables.proofs.TableNumbers.{table-head-least, marks-least}
 use Rattle.tables.proofs.TableFormsMeant.{table-head-form, mark-form}
 use Rattle.tables.proofs.AcceptedTables.{tables-exactly, table-short}
 use Rattle.tables.proofs.TableRefusals.{table-one-exactly, table-line-exactly, table-seven-exactly, table-none-exactly, table-refused}
+use Rattle.devices.specs.Describing.{Description, described, refusedAt, onDescription, ofCircuit, ofTable}
+use Rattle.devices.specs.Devices.{circuitProblem, tableProblem}
+use Rattle.devices.specs.Problems.{Problem}
 use Rattle.devices.proofs.Descriptions.{table-text, circuit-text}
 use Rattle.devices.proofs.TextKinds.{table-unparsed}
 use Rattle.report.proofs.PrintedLabels.{printed-covers, printed-line}
@@ -58,13 +66,38 @@ tables-answered text =
       short = table-short text;
     }
 
+-- what each kind of text describes is a problem, or else a refusal, and says which
+same-problem : {a b : Problem} → described a ≡ described b → a ≡ b
+same-problem {a} e = ap (onDescription (λ p. p) (λ number place. a)) e
+
+apart : {X : Type 0} {p : Problem} {number place : ℕ} → described p ≡ refusedAt number place → X
+apart e = absurd (false≢true (sym (ap (onDescription (λ p. true) (λ number place. false)) e)))
+
+table-refusal : (q : TableParse) (number place : ℕ) → (ofTable q ≡ refusedAt number place) ↔ (q ≡ rejectedTable number place)
+table-refusal (acceptedTable t) number place = (λ e. apart e, λ e. ap ofTable e)
+table-refusal (rejectedTable a b) number place = (λ e. ap (onDescription (λ p. rejectedTable 0 0) rejectedTable) e, λ e. ap ofTable e)
+
+table-problem : (q : TableParse) (p : Problem) → (ofTable q ≡ described p) ↔ ((t : TruthTable) × (q ≡ acceptedTable t) × (tableProblem t ≡ p))
+table-problem (acceptedTable t) p = (λ e. (t, refl, same-problem e), λ s. ap ofTable (s .1) ∙ ap described (s .2))
+table-problem (rejectedTable a b) p = (λ e. apart (sym e), λ s. ap ofTable (s .1) ∙ ap described (s .2))
+
+circuit-refusal : (q : Parse) (number place : ℕ) → (ofCircuit q ≡ refusedAt number place) ↔ (q ≡ rejected number place)
+circuit-refusal (accepted n) number place = (λ e. apart e, λ e. ap ofCircuit e)
+circuit-refusal (rejected a b) number place = (λ e. ap (onDescription (λ p. rejected 0 0) rejected) e, λ e. ap ofCircuit e)
+
+circuit-problem : (q : Parse) (p : Problem) → (ofCircuit q ≡ described p) ↔ ((n : Netlist) × (q ≡ accepted n) × (circuitProblem n ≡ p))
+circuit-problem (accepted n) p = (λ e. (n, refl, same-problem e), λ s. ap ofCircuit (s .1) ∙ ap described (s .2))
+circuit-problem (rejected a b) p = (λ e. apart (sym e), λ s. ap ofCircuit (s .1) ∙ ap described (s .2))
+
 kinds-told : (text : List ℕ) → KindsTold text
 unfolding isTable
 kinds-told text =
     record {
       word = (same-equal (fieldOf (before lineEnd text) 0) tableWord, λ e. ap (λ (w : List ℕ). sameBytes w tableWord) e ∙ same-self tableWord);
-      table = table-text text;
-      other = circuit-text text;
+      refusal = λ e number place. subst (λ (d : Description). (d ≡ refusedAt number place) ↔ (tableOf text ≡ rejectedTable number place)) (sym (table-text text e)) (table-refusal (tableOf text) number place);
+      problem = λ e p. subst (λ (d : Description). (d ≡ described p) ↔ ((t : TruthTable) × (tableOf text ≡ acceptedTable t) × (tableProblem t ≡ p))) (sym (table-text text e)) (table-problem (tableOf text) p);
+      other-refusal = λ e number place. subst (λ (d : Description). (d ≡ refusedAt number place) ↔ (parseOf text ≡ rejected number place)) (sym (circuit-text text e)) (circuit-refusal (parseOf text) number place);
+      other-problem = λ e p. subst (λ (d : Description). (d ≡ described p) ↔ ((n : Netlist) × (parseOf text ≡ accepted n) × (circuitProblem n ≡ p))) (sym (circuit-text text e)) (circuit-problem (parseOf text) p);
       unread = table-unparsed text;
     }
 

@@ -31,7 +31,9 @@ use Rattle.tables.specs.TablePlaces.{TableLineNumber, TableLineFails, TableByte
 use Rattle.tables.specs.TableText.{tableText}
 use Rattle.tables.specs.TableWellFormed.{TableRight}
 use Rattle.tables.specs.Tables.{TruthTable}
-use Rattle.devices.specs.Describing.{descriptionOf, ofCircuit, ofTable}
+use Rattle.devices.specs.Describing.{described, refusedAt, descriptionOf}
+use Rattle.devices.specs.Devices.{circuitProblem, tableProblem}
+use Rattle.devices.specs.Problems.{Problem}
 use Rattle.text.specs.Text.{bytesOf, before, fieldOf, lineEnd}
 use Rattle.circuit.specs.CircuitCall.{circuitAnswer}
 use Rattle.planner.specs.PlanCall.{planVerdict, planAnswer, WorkKept}
@@ -69,8 +71,11 @@ pub record TablesAnswered (text : List ℕ) : Type 0 where
 -- calls on circuit texts give 2 at line 1 for a table", and 1 where it is too long
 pub record KindsTold (text : List ℕ) : Type 0 where
   pub word : (isTable text ≡ true) ↔ (fieldOf (before lineEnd text) 0 ≡ bytesOf "table")
-  pub table : isTable text ≡ true → descriptionOf text ≡ ofTable (tableOf text)
-  pub other : isTable text ≡ false → descriptionOf text ≡ ofCircuit (parseOf text)
+  -- what a call is told of it: the refusal with its number and place, or the problem, of the parser of its kind
+  pub refusal : isTable text ≡ true → (number place : ℕ) → (descriptionOf text ≡ refusedAt number place) ↔ (tableOf text ≡ rejectedTable number place)
+  pub problem : isTable text ≡ true → (p : Problem) → (descriptionOf text ≡ described p) ↔ ((t : TruthTable) × (tableOf text ≡ acceptedTable t) × (tableProblem t ≡ p))
+  pub other-refusal : isTable text ≡ false → (number place : ℕ) → (descriptionOf text ≡ refusedAt number place) ↔ (parseOf text ≡ rejected number place)
+  pub other-problem : isTable text ≡ false → (p : Problem) → (descriptionOf text ≡ described p) ↔ ((n : Netlist) × (parseOf text ≡ accepted n) × (circuitProblem n ≡ p))
   pub unread : isTable text ≡ true → length text ≤ 16384 → parseOf text ≡ rejected 2 1
 
 -- what each kind of line is tested for, by what it is written from
