@@ -16,8 +16,9 @@
  *   calls, so calls may run at the same time wherever none writes what another is lent. walsh_plan and walsh_report search, each anew;
  *   docs/BENCHMARK.md has the longest search.
  *
- * The order of the refusals in a call's comment is the order of its tests: where several apply, the first is given. "1 to 7" is the text, line
- * by line, and so is "1 to 7 and 15", where tables are taken: 15 comes at line 2 of a table, after 2, and 4 never does.
+ * The order of the refusals in a call's comment is the order of its tests: where several apply, the first is given. "1 to 7 and 19" is the text,
+ * line by line: 19 comes at the line of a bridge, after 2 and 3. So is "1 to 7, 15 and 19", where tables are taken: 15 comes at line 2 of a table,
+ * after 2, and 4 never does.
  */
 #ifndef WALSH_H
 #define WALSH_H
@@ -52,11 +53,11 @@ extern "C" {
 enum walsh_number {
     WALSH_DONE = 0,
     WALSH_TEXT_TOO_LONG = 1,
-    WALSH_MALFORMED_LINE = 2,        /* place: the line of the text, from 1, in 3 to 7 and 15 too; malformed, missing or without its line end */
+    WALSH_MALFORMED_LINE = 2,        /* place: the line of the text, from 1, in 3 to 7, 15 and 19 too; malformed, missing or without its line end */
     WALSH_NUMBER_OUT_OF_RANGE = 3,   /* place: the line */
     WALSH_GATE_READS_AHEAD = 4,      /* place: the line; the gate reads its own or a later line */
-    WALSH_NO_SUCH_LINE = 5,          /* place: the line; an output or a fault names a line above the last (a table: above N); outside 1 to 56: 3 */
-    WALSH_LINES_NOT_RISING = 6,      /* place: the line, a fault's */
+    WALSH_NO_SUCH_LINE = 5,          /* place: the line; an output or a stuck line is above the last (a table: above N); outside 1 to 56: 3 */
+    WALSH_LINES_NOT_RISING = 6,      /* place: the line, a fault's of stuck lines */
     WALSH_BYTES_AFTER_TEXT = 7,      /* place: the line after the last that was due */
     WALSH_BUFFER_TOO_SHORT = 8,      /* `out` or `work` */
     WALSH_BAD_LENGTH = 9,            /* of a list: not 2, 4, 8 .. 2,048 */
@@ -65,7 +66,8 @@ enum walsh_number {
     WALSH_ARGUMENT_OUT_OF_RANGE = 12, /* each call's comment says which */
     WALSH_SILENT_FAULT = 13,         /* place: the first fault, from 1, that changes no row */
     WALSH_NO_SET_WITHIN_CAP = 14,    /* no set of labels within the cap shows every fault */
-    WALSH_BAD_MARK = 15              /* place: the line, 2; a mark of a table is not `0`, `1` or `-`; nothing is written, as with 1 to 7 */
+    WALSH_BAD_MARK = 15,             /* place: the line, 2; a mark of a table is not `0`, `1` or `-`; nothing is written, as with 1 to 7 */
+    WALSH_BAD_BRIDGE = 19            /* place: the line; of a bridge an input is above N, or the two do not rise; nothing is written, as with 1 to 7 */
 };
 
 /* The kinds of a reading. */
@@ -138,11 +140,12 @@ struct walsh_part {
 
 /* Calls on a text. walsh_plan, walsh_report and walsh_circuit take circuits and tables. Of a table all rows and coefficients are doubled, in all
    three: a row is 2 where its mark is `1`, 1 where it is `-` (a free row), 0 where it is `0`. walsh_reading and walsh_pair take circuits only: a
-   table is refused by 1 where it is too long, and else by 2 at line 1, whatever stands in its lines. */
+   table is refused by 1 where it is too long, and else by 2 at line 1, whatever stands in its lines. A fault of either text is one to three stuck
+   lines or a bridge: two inputs that both show the AND of what is applied to them, wherever they are read. The numbers of the faults count both. */
 
 /* Plans the circuit or table: the first shortest set of labels, within the text's cap, that shows every fault. What the first
    WALSH_WORKING_NUMBERS of `work` hold after a plan, 13 or 14 may be anything; later ones stay.
-   Refusals: 1 to 7 and 15, 8 (fewer working numbers), 13, 14. */
+   Refusals: 1 to 7, 15 and 19, 8 (fewer working numbers), 13, 14. */
 struct walsh_signature walsh_plan(const uint8_t *text, size_t text_length, uint32_t *work, size_t work_length);
 
 /* Writes the report on the text to `out`: the plan with its coefficients, a table's doubled, or the line `refused,NUMBER,PLACE`. `work` is as
@@ -152,17 +155,17 @@ struct walsh_written walsh_report(const uint8_t *text, size_t text_length, uint8
 
 /* Writes the 2^N coefficients of the circuit or table, by label, a table's doubled: sound for fault 0, else under that fault of the text, from 1.
    N, the number of inputs, is field 1 of an accepted text (walsh_field).
-   Refusals: 1 to 7 and 15, 12 (a fault above the text's last), 8. */
+   Refusals: 1 to 7, 15 and 19, 12 (a fault above the text's last), 8. */
 struct walsh_reply walsh_circuit(const uint8_t *text, size_t text_length, uint32_t fault, int32_t *out, size_t out_length);
 
 /* Reads the sound circuit: the mean of the rows that have the given values at the fixed inputs, an exact fraction. Bit i-1 of the mask
    fixes input i at that bit of the values; mask 0 fixes none.
-   Refusals: 1 to 7 (2 at line 1 for a table), 12 (a mask of 2^N or above, or values outside the mask). */
+   Refusals: 1 to 7 and 19 (2 at line 1 for a table), 12 (a mask of 2^N or above, or values outside the mask). */
 struct walsh_measured walsh_reading(const uint8_t *text, size_t text_length, uint32_t mask, uint32_t values);
 
 /* Reads the circuit sound and under a fault of the text, from 1; mask and values as in walsh_reading: they say what is applied, and an input
-   that the fault holds shows its stuck value all the same. The difference is exact too.
-   Refusals: 1 to 7 (2 at line 1 for a table), 12 (also fault 0 or a fault above the text's last). */
+   that the fault holds shows its stuck value all the same, and a bridged one the AND. The difference is exact too.
+   Refusals: 1 to 7 and 19 (2 at line 1 for a table), 12 (also fault 0 or a fault above the text's last). */
 struct walsh_comparison walsh_pair(const uint8_t *text, size_t text_length, uint32_t fault, uint32_t mask, uint32_t values);
 
 /* Finds field `number`, from 0, of any text: the part between two commas or ends, or the empty part at the text's end where there is no such
@@ -196,6 +199,14 @@ struct walsh_reply walsh_stuck(const int32_t *coefficients, size_t coefficients_
    Refusals: 9, 12 (any other k or values), 10, 8, 11 (a sum does not divide by 2^k). */
 struct walsh_reply walsh_opened(const int32_t *coefficients, size_t coefficients_length, const uint32_t *values, size_t values_length,
                                 int32_t *out, size_t out_length);
+
+/* Coefficients to the coefficients, as many, with two inputs bridged: both show the AND of what is applied to them. The first is at least 1 and
+   below the second, which is at most n; a list of 2 has no such inputs. Where the list is the spectrum of rows, the result is that of the bridged
+   rows. A list that is no spectrum of rows is not refused for that alone, and its result may have numbers of 3 times WALSH_MAX_COEFFICIENT.
+   Refusals: 9, 12 (any other inputs), 10, 8, 11 (the half of the sum of a coefficient with the first input and the one with the second in its
+   place is not whole; the place is the first such label, without both inputs). */
+struct walsh_reply walsh_bridged(const int32_t *coefficients, size_t coefficients_length, uint32_t first, uint32_t second, int32_t *out,
+                                 size_t out_length);
 
 #ifdef __cplusplus
 }

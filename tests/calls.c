@@ -1,8 +1,8 @@
 /*
  * Every function of include/walsh.h, done and refused, each answer field by field. tests/run compiles it as C99 and as C++ and holds what it prints
- * to tests/calls.expected, which was worked out by hand from document 01, for tables from note 1 of document 02, and not taken from the library. The
- * comments say where answers come from; "paper" is document 01. Places where a result is lent hold MARK before each call, so a number too many or
- * too few shows.
+ * to tests/calls.expected, which was worked out by hand from document 01, for tables and bridges from notes 1 and 8 of document 02, and not taken
+ * from the library. The comments say where answers come from; "paper" is document 01. Places where a result is lent hold MARK before each call, so
+ * a number too many or too few shows.
  */
 #include <stdio.h>
 #include <string.h>
@@ -15,6 +15,7 @@ static struct walsh_reply (*const spectrum)(const int32_t *, size_t, int32_t *, 
 static struct walsh_reply (*const rows)(const int32_t *, size_t, int32_t *, size_t) = walsh_rows;
 static struct walsh_reply (*const stuck)(const int32_t *, size_t, const uint32_t *, size_t, const uint32_t *, size_t, int32_t *, size_t) = walsh_stuck;
 static struct walsh_reply (*const opened)(const int32_t *, size_t, const uint32_t *, size_t, int32_t *, size_t) = walsh_opened;
+static struct walsh_reply (*const bridged)(const int32_t *, size_t, uint32_t, uint32_t, int32_t *, size_t) = walsh_bridged;
 static struct walsh_reply (*const circuit)(const uint8_t *, size_t, uint32_t, int32_t *, size_t) = walsh_circuit;
 static struct walsh_signature (*const plan)(const uint8_t *, size_t, uint32_t *, size_t) = walsh_plan;
 static struct walsh_written (*const report)(const uint8_t *, size_t, uint8_t *, size_t, uint32_t *, size_t) = walsh_report;
@@ -28,8 +29,10 @@ static struct walsh_part (*const field)(const uint8_t *, size_t, size_t) = walsh
 #define NO_LIST NULL, 0
 #define NO_TEXT NULL, 0
 
-/* The paper's listing, x1x2 + x3 not x2, with x2 stuck. */
-#define LISTING "circuit,3,4,1,2,2\ngate,not,2,0\ngate,and,1,2\ngate,and,3,4\ngate,or,5,6\noutput,7,1\nfault,2,0\nfault,2,1\n"
+/* The paper's listing, x1x2 + x3 not x2, with x2 stuck; FIRST and SECOND stand for the lines of the faults. */
+#define LISTING_OF(FIRST, SECOND) \
+    "circuit,3,4,1,2,2\ngate,not,2,0\ngate,and,1,2\ngate,and,3,4\ngate,or,5,6\noutput,7,1\n" FIRST "\n" SECOND "\n"
+#define LISTING LISTING_OF("fault,2,0", "fault,2,1")
 /* The paper's x1x2 + x3, an input stuck. */
 #define OR_OF_AND "circuit,3,2,1,4,1\ngate,and,1,2\ngate,or,3,4\noutput,5,1\nfault,1,0\nfault,1,1\nfault,3,0\nfault,3,1\n"
 /* The paper's silent fault. */
@@ -53,6 +56,16 @@ static struct walsh_part (*const field)(const uint8_t *, size_t, size_t) = walsh
 /* x1 xor x3, where x2 is always x1; an input stuck at 0. The sums are 8, 0, 0, 0, 0, -4, -4, 0; under the faults 8, 0, 0, 0, -4, 0, -4, 0, then
    8, 0, 0, 0, -4, -4, 0, 0, then 8, -4, -4, 0, 0, 0, 0, 0: no label shows all three, 1 and 4 together do. CAP is a digit. */
 #define TWINS(CAP) "table,3,3," CAP "\n" "0--11--0\n" "fault,1,0\n" "fault,2,0\n" "fault,3,0\n"
+
+/* The listing with a bridge: x1 and x3 show x1x3, and then the output is x1x3 whatever x2 is, 1 on rows 5 and 7 of 8. */
+#define BRIDGED_LISTING LISTING_OF("fault,2,0", "bridge,1,3")
+/* x1x2 + x3, x1 and x2 bridged: x1x2 stays what it is. */
+#define SILENT_BRIDGE "circuit,3,2,1,1,1\ngate,and,1,2\ngate,or,3,4\noutput,5,1\nbridge,1,2\n"
+/* x1 and x2 as outputs of weights 2 and 3: rows 0, 2, 3, 5. Bridged both show x1x2: rows 0, 0, 0, 5. */
+#define BRIDGED_OUTPUTS "circuit,2,0,2,1,1\noutput,1,2\noutput,2,3\nbridge,1,2\n"
+/* Example 6.2 of source document 004 (ones at rows 0, 3, 4, 5, 6, 9, 12 of 16) with its bridges; FIRST stands for the line of the first. */
+#define BRIDGED_TABLE_OF(FIRST) "table,4,3,2\n" "1001111001001000\n" FIRST "\n" "bridge,2,3\n" "bridge,3,4\n"
+#define BRIDGED_TABLE BRIDGED_TABLE_OF("bridge,1,2")
 
 static int32_t out[2 * WALSH_MAX_LIST];
 static int32_t list[2 * WALSH_MAX_LIST];
@@ -80,6 +93,7 @@ static const char *name(uint32_t number)
     case WALSH_SILENT_FAULT: return "silent fault";
     case WALSH_NO_SET_WITHIN_CAP: return "no set within cap";
     case WALSH_BAD_MARK: return "bad mark";
+    case WALSH_BAD_BRIDGE: return "bad bridge";
     default: return "unknown";
     }
 }
@@ -332,6 +346,54 @@ static void opened_lines(void)
     put_reply("opened, no coefficients", opened(NO_LIST, zero, 1, out, 4), 1);
 }
 
+static void bridged_inputs(void)
+{
+    /* Ones at rows 0, 3, 4, 5, 6, 9, 12 of 16, and their spectrum; at label 0 the example has 10, 4, 10, 9, 7, 7 under the bridges
+       (004, example 6.2). */
+    static const int32_t example[16] = {7, 1, 3, 1, -1, -3, -1, 1, 3, 1, -1, 1, -1, 1, -1, 5};
+    /* The paper's listing. Bridged x1 and x3 leave rows 5 and 7: 2, and by signs -2, 0, 0, -2, 2, 0, 0. */
+    static const int32_t listing[8] = {4, -2, 0, 2, -2, 0, -2, 0};
+    /* Of inputs 1 and 2 the halves are of 0 + 0 at label 0 and of 1 + 0 at label 4. */
+    static const int32_t odd[8] = {0, 0, 0, 0, 0, 1, 0, 0};
+    /* No spectrum of rows: 100 + 12 + 1, 12, 12, -12. */
+    static const int32_t any[4] = {100, 20, 4, 1};
+    int32_t spoilt[4] = {0, 1, 0, -WALSH_MAX_COEFFICIENT - 1};
+    size_t i;
+
+    put_reply("bridged, example at 1 and 2", bridged(example, 16, 1, 2, out, 16), 1);
+    put_reply("bridged, example at 1 and 3", bridged(example, 16, 1, 3, out, 16), 1);
+    put_reply("bridged, example at 1 and 4", bridged(example, 16, 1, 4, out, 16), 1);
+    put_reply("bridged, example at 2 and 4", bridged(example, 16, 2, 4, out, 16), 1);
+    put_reply("bridged, example at 2 and 3", bridged(example, 16, 2, 3, out, 16), 1);
+    put_reply("bridged, example at 3 and 4", bridged(example, 16, 3, 4, out, 16), 1);
+    put_reply("bridged, listing at 1 and 3", bridged(listing, 8, 1, 3, out, 9), 9);
+    put_reply("bridged, any list", bridged(any, 4, 1, 2, out, 5), 5);
+    put_reply("bridged, odd half", bridged(odd, 8, 1, 2, out, 8), 1);
+    /* Label 5 names inputs 1 and 3: with 2 and 3 it is in the half of label 1, with 1 and 3 in none. */
+    put_reply("bridged, odd half at 2 and 3", bridged(odd, 8, 2, 3, out, 8), 1);
+    put_reply("bridged, odd number in no half", bridged(odd, 8, 1, 3, out, 9), 9);
+    put_reply("bridged, equal inputs", bridged(listing, 8, 2, 2, out, 8), 1);
+    put_reply("bridged, falling inputs", bridged(listing, 8, 3, 1, out, 8), 1);
+    put_reply("bridged, input 0", bridged(listing, 8, 0, 1, out, 8), 1);
+    put_reply("bridged, input 4 of 3", bridged(listing, 8, 1, 4, out, 8), 1);
+    put_reply("bridged, largest argument", bridged(listing, 8, 1, 4294967295u, out, 8), 1);
+    put_reply("bridged, a list of two", bridged(listing, 2, 1, 2, out, 8), 1);
+    put_reply("bridged, no coefficients", bridged(NO_LIST, 1, 2, out, 8), 1);
+    put_reply("bridged, a number short", bridged(listing, 8, 1, 3, out, 7), 1);
+    put_reply("bridged, no room", bridged(listing, 8, 1, 3, NO_LIST), 1);
+    /* 9, 12, 10, 8, 11: one less is wrong each time. */
+    put_reply("bridged, all wrong", bridged(spoilt, 3, 2, 2, out, 2), 1);
+    put_reply("bridged, all but the length", bridged(spoilt, 4, 2, 2, out, 3), 1);
+    put_reply("bridged, and the inputs", bridged(spoilt, 4, 1, 2, out, 3), 1);
+    spoilt[3] = 0;
+    put_reply("bridged, and the range", bridged(spoilt, 4, 1, 2, out, 3), 1);
+    put_reply("bridged, the half alone", bridged(spoilt, 4, 1, 2, out, 4), 1);
+    /* Three times the largest coefficient; the largest with one input, its negative with both. */
+    for (i = 0; i < WALSH_MAX_LIST; i++)
+        list[i] = WALSH_MAX_COEFFICIENT;
+    put_reply("bridged, largest numbers", bridged(list, WALSH_MAX_LIST, 1, 2, out, COUNT(out)), 5);
+}
+
 static void circuits(void)
 {
     /* Sound: the paper's eight. Under fault 1 the output is x3, under fault 2 it is x1. */
@@ -546,6 +608,60 @@ static void tables_unread(void)
     put_comparison("pair, longer table", pair(long_text, WALSH_MAX_TEXT_BYTES + 1, 1, 0, 0));
 }
 
+/* The calls on texts with bridges. */
+static void bridges(void)
+{
+    size_t all = WALSH_WORKING_NUMBERS, i, n = 0;
+
+    put_reply("bridge, listing sound", circuit(TEXT(BRIDGED_LISTING), 0, out, 9), 9);
+    put_reply("bridge, listing", circuit(TEXT(BRIDGED_LISTING), 2, out, 9), 9);
+    put_reply("bridge, listing and fault 3", circuit(TEXT(BRIDGED_LISTING), 3, out, 9), 1);
+    put_reply("bridge, outputs", circuit(TEXT(BRIDGED_OUTPUTS), 1, out, 5), 5);
+    /* Twice 7, and twice the example's 10 and 7. */
+    put_reply("bridge, table sound", circuit(TEXT(BRIDGED_TABLE), 0, out, 16), 1);
+    put_reply("bridge, table at 1 and 2", circuit(TEXT(BRIDGED_TABLE), 1, out, 16), 1);
+    put_reply("bridge, table at 2 and 3", circuit(TEXT(BRIDGED_TABLE), 2, out, 16), 1);
+    put_signature("plan, bridged listing", plan(TEXT(BRIDGED_LISTING), work, all));
+    put_signature("plan, silent bridge", plan(TEXT(SILENT_BRIDGE), work, all));
+    put_signature("plan, bridged table", plan(TEXT(BRIDGED_TABLE), work, all));
+    put_written("report, bridged listing", report(TEXT(BRIDGED_LISTING), bytes, sizeof bytes, work, all));
+    put_written("report, silent bridge", report(TEXT(SILENT_BRIDGE), bytes, sizeof bytes, work, all));
+    put_written("report, bridged table", report(TEXT(BRIDGED_TABLE), bytes, sizeof bytes, work, all));
+    /* 4 and 2 of 8; with x1 at 1 and x3 at 0 applied the sound output is x2, the bridged one 0. */
+    put_comparison("pair, bridged listing", pair(TEXT(BRIDGED_LISTING), 2, 0, 0));
+    put_comparison("pair, bridged listing, x1 at 1 and x3 at 0", pair(TEXT(BRIDGED_LISTING), 2, 5, 1));
+    /* 0 + 2 + 3 + 5 by 4, and 5 by 4. */
+    put_comparison("pair, bridged outputs", pair(TEXT(BRIDGED_OUTPUTS), 1, 0, 0));
+    put_measured("reading, bridged outputs", reading(TEXT(BRIDGED_OUTPUTS), 0, 0));
+    put_comparison("pair, bridged table", pair(TEXT(BRIDGED_TABLE), 1, 0, 0));
+
+    put_refusal("bridge, equal inputs", LISTING_OF("bridge,2,2", "fault,2,0"));
+    put_refusal("bridge, falling inputs", LISTING_OF("fault,2,0", "bridge,3,2"));
+    put_refusal("bridge, a gate's line", LISTING_OF("fault,2,0", "bridge,2,5"));
+    put_refusal("bridge, a table's input above N", BRIDGED_TABLE_OF("bridge,2,5"));
+    put_refusal("bridge, line 57", LISTING_OF("bridge,57,1", "fault,2,0"));
+    put_refusal("bridge, line 0", LISTING_OF("bridge,1,0", "fault,2,0"));
+    put_refusal("bridge, one input", LISTING_OF("bridge,1", "fault,2,0"));
+    put_refusal("bridge, three inputs", LISTING_OF("bridge,1,2,3", "fault,2,0"));
+    put_refusal("bridge, another word", LISTING_OF("bridges,1,2", "fault,2,0"));
+    /* The first line decides, and stuck lines are refused as before. */
+    put_refusal("bridge, equal inputs and no such line", LISTING_OF("bridge,2,2", "fault,8,0"));
+    put_refusal("bridge, no such line and equal inputs", LISTING_OF("fault,8,0", "bridge,2,2"));
+    put_refusal("bridge, lines not rising and equal inputs", LISTING_OF("fault,2,0,1,0", "bridge,2,2"));
+
+    for (i = 0; i < COUNT(work); i++)
+        work[i] = MARK;
+    put_signature("plan, bad bridge", plan(TEXT(BRIDGED_TABLE_OF("bridge,2,1")), work, all));
+    /* The text comes before 8. */
+    put_signature("plan, bad bridge and no working numbers", plan(TEXT(BRIDGED_TABLE_OF("bridge,2,1")), NO_LIST));
+    put_written("report, bad bridge", report(TEXT(BRIDGED_TABLE_OF("bridge,2,1")), bytes, sizeof bytes, work, all));
+    for (i = 0; i < COUNT(work); i++)
+        n += work[i] != MARK;
+    printf("working numbers used: %zu\n", n);
+    put_measured("reading, bad bridge and mask 8", reading(TEXT(LISTING_OF("bridge,2,1", "fault,2,0")), 8, 0));
+    put_comparison("pair, bad bridge and fault 3", pair(TEXT(LISTING_OF("fault,2,0", "bridge,2,1")), 3, 0, 0));
+}
+
 static void fields(void)
 {
     put_part("field 0", field(TEXT("circuit,3,48"), 0));
@@ -570,6 +686,7 @@ int main(void)
     ways_back();
     stuck_inputs();
     opened_lines();
+    bridged_inputs();
     circuits();
     texts();
     plans();
@@ -580,6 +697,7 @@ int main(void)
     table_texts();
     table_plans();
     tables_unread();
+    bridges();
     fields();
     return 0;
 }

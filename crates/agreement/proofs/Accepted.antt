@@ -1,11 +1,13 @@
 -- Fault k of an accepted text:
---   named-fault-right                it is right for the circuit
+--   right-unbridged, right-bridged   a right fault is one of stuck lines where it has no bridge, and else a bridge
+--   named-stuck-fault, named-bridge-fault    so is fault k
 --   spectrum-is, answer-is           what the circuit call writes and answers for it, from the problem
 --   circuit-spectrum-is, circuit-answer-is    the same from the circuit
 --   room-answer, room-enough         a call on a list that passes the tests before 8 asks for room only, as the circuit call does
 use mathlib.Core.Path.{_≡_, ap, _∙_}
 use mathlib.Core.Bool.{Bool, true}
 use mathlib.Core.List.{List}
+use mathlib.Core.Logic.{inl, inr}
 use Prim.Native.Nat.{ℕ, zero, suc, _^_, _≤_, _<_}
 use native.Mathlib.Omega.{arith}
 use lib.IntN.{ℤ, pos}
@@ -14,9 +16,12 @@ use borrow.Author.Tests.{le-ltb, ne-eqb}
 use Rattle.integer.specs.Tab.{Within}
 use Rattle.netlist.specs.Circuits.{Netlist, faultAt}
 use Rattle.netlist.specs.Parsing.{accepted, parseOf}
-use Rattle.sections.specs.FaultLines.{FaultRight}
+use Rattle.sections.specs.FaultLines.{StuckFault, BridgeFault, FaultRight}
 use Rattle.netlist.specs.WellFormed.{WellFormed, topOf}
 use Rattle.simulation.specs.Rows.{rowsOf}
+use Rattle.statements.specs.Items.{noBridge}
+use Rattle.statements.specs.declared.Bridge.{Bridge}
+use Rattle.statements.specs.declared.Fault.{Fault}
 use Rattle.devices.specs.Describing.{described, descriptionOf}
 use Rattle.devices.specs.Devices.{circuitProblem}
 use Rattle.devices.specs.Problems.{Problem, problemFrom, rowsAt}
@@ -28,9 +33,25 @@ use Rattle.screen.specs.declared.Answer.the-variants.{Done}
 use Rattle.screen.proofs.Screens.{within-screened}
 use Rattle.circuit.specs.CircuitCall.{roomAnswer, faultAnswer, circuitAnswer, faultSpectrum, circuitSpectrum}
 
-pub named-fault-right : (n : Netlist) (k : ℕ) → WellFormed n → 1 ≤ k → k ≤ length (n .faults) → FaultRight (topOf n) (faultAt n k)
+module _ (inputs top : ℕ) (f : Fault) where
+  pub right-unbridged : FaultRight inputs top f → f .bridge ≡ noBridge → StuckFault top f
+  right-unbridged (inl stuck) none = stuck
+  right-unbridged (inr bridge) none = absurd (omega (arith, bridge .first-low, ap (λ (b : Bridge). b .first) none))
+
+  pub right-bridged : FaultRight inputs top f → (f .bridge ≡ noBridge → ⊥) → BridgeFault inputs f
+  right-bridged (inl stuck) some = absurd (some (stuck .unbridged))
+  right-bridged (inr bridge) some = bridge
+
+named-fault-right : (n : Netlist) (k : ℕ) → WellFormed n → 1 ≤ k → k ≤ length (n .faults) → FaultRight (n .inputs) (topOf n) (faultAt n k)
 named-fault-right n zero w low high = absurd (omega arith)
 named-fault-right n (suc k) w low high = w .faults-right k (omega arith)
+
+module _ (n : Netlist) (k : ℕ) (w : WellFormed n) (low : 1 ≤ k) (high : k ≤ length (n .faults)) where
+  pub named-stuck-fault : faultAt n k .bridge ≡ noBridge → StuckFault (topOf n) (faultAt n k)
+  named-stuck-fault = right-unbridged (n .inputs) (topOf n) (faultAt n k) (named-fault-right n k w low high)
+
+  pub named-bridge-fault : (faultAt n k .bridge ≡ noBridge → ⊥) → BridgeFault (n .inputs) (faultAt n k)
+  named-bridge-fault = right-bridged (n .inputs) (topOf n) (faultAt n k) (named-fault-right n k w low high)
 
 module _ (text : List ℕ) (p : Problem) (is : descriptionOf text ≡ described p) (k : ℕ) where
   pub spectrum-is : circuitSpectrum text k ≡ spectrumOf (rowsAt p k)

@@ -5,3 +5,6 @@ pub mod StuckInputs
 pub mod StuckProblems
 pub mod StuckTables
 pub mod OpenedLines
+pub mod BridgedProblems
+pub mod BridgedInputs
+pub mod BridgedTables

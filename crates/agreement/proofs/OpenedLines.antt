@@ -1,6 +1,6 @@
 -- The opened-line call and the circuit call agree (document 01, "Spectrum under a fault, from coefficients alone"):
 --   opened-rows    a circuit with its fault's lines opened and set to their values has the rows of the circuit under that fault
--- and for fault k of an accepted text, its lines inner or not, the opened-line call on the spectrum of the circuit with those lines opened:
+-- and for fault k of an accepted text, where it is no bridge, its lines inner or not, the opened-line call on the spectrum of the circuit with those lines opened:
 --   opened-lines-answer, -done    answers as the circuit call does for fault k, so Done where there is room
 --   opened-lines-agree            writes what the circuit call writes for fault k
 use mathlib.Core.Path.{_≡_, refl, sym, ap, ap₂, _∙_, subst}
@@ -19,19 +19,19 @@ use Rattle.integer.proofs.Bounds.{within-more}
 use Rattle.integer.proofs.Tabs.{length-tab, getD-tab, tab-ext}
 use Rattle.netlist.specs.Circuits.{Netlist, faultAt}
 use Rattle.netlist.specs.Parsing.{accepted, parseOf}
-use Rattle.sections.specs.FaultLines.{FaultRight}
+use Rattle.sections.specs.FaultLines.{StuckFault}
 use Rattle.netlist.specs.WellFormed.{WellFormed, topOf}
 use Rattle.netlist.proofs.Acceptance.{well-formed}
-use Rattle.gates.specs.Gates.{shown, applied}
+use Rattle.gates.specs.Gates.{shown, appliedUnder}
 use Rattle.simulation.specs.Rows.{rowValue, rowsOf}
 use Rattle.simulation.proofs.RowBounds.{row-within}
+use Rattle.statements.specs.Items.{noBridge}
 use Rattle.statements.specs.declared.Fault.{Fault}
 use Rattle.statements.specs.declared.Pair.{Pair}
 use Rattle.screen.specs.Answers.{andThen, inputsOf}
 use Rattle.transform.specs.Spectrum.{spectrumOf}
-use Rattle.screen.specs.declared.Answer.{Answer}
-use Rattle.screen.specs.declared.Answer.the-variants.{Done, Refused}
-use Rattle.screen.proofs.Screens.{inputs-is}
+use Rattle.screen.specs.declared.Answer.the-variants.{Done}
+use Rattle.screen.proofs.Screens.{inputs-is, then-done}
 use Rattle.transform.proofs.Spectra.{length-spectrum, within-spectrum}
 use Rattle.faults.specs.Faults.{openedRowNumber, openedRow, openedRows, openedRight, keptInputs, openedAnswer, openedSpectrumOf}
 use Rattle.faults.proofs.Arguments.{few-is, opened-binary}
@@ -41,7 +41,7 @@ use Rattle.faults.proofs.Opening.{Bits}
 use Rattle.circuit.specs.CircuitCall.{roomAnswer, circuitAnswer, circuitSpectrum}
 use Rattle.lookup.specs.StuckPairs.{withPair, presentPairs, pairValue, stuckValues}
 use Rattle.agreement.specs.Opened.{drivenBy, driven, openedCircuitRow, openedCircuitRows}
-use Rattle.agreement.proofs.Accepted.{named-fault-right, circuit-spectrum-is, circuit-answer-is, room-enough, room-answer}
+use Rattle.agreement.proofs.Accepted.{named-stuck-fault, circuit-spectrum-is, circuit-answer-is, room-enough, room-answer}
 use Rattle.lookup.proofs.StuckPairs.{with-none, pairs-some, pairs-few, values-bits, values-binary}
 use Rattle.agreement.proofs.Pairs.{bit-back, shownBy, shown-by-pairs}
 use Rattle.agreement.proofs.SameRows.{same-row}
@@ -109,7 +109,7 @@ with-driven y i s now rest none some h = go (eqb (s .line) 0) refl h
     go false e h = ap₂ (λ (p : Pair) (l : List Pair). p ∷ l) (driven-same y i s (h .0)) (some (h .1))
 
 -- where the bits are the fault's values, the lines show what the fault says
-driven-pairs : (top n y : ℕ) (f : Fault) → FaultRight top f → Shows n (stuckValues f) y → presentPairs (driven n f y) ≡ presentPairs f
+driven-pairs : (top n y : ℕ) (f : Fault) → StuckFault top f → Shows n (stuckValues f) y → presentPairs (driven n f y) ≡ presentPairs f
 unfolding presentPairs stuckValues driven
 driven-pairs top n y f r h =
     let one : n + 1 ≡ suc n = omega arith in
@@ -129,12 +129,12 @@ length-opened : (n : Netlist) (f : Fault) → length (openedCircuitRows n f) ≡
 unfolding openedCircuitRows
 length-opened n f = length-tab (2 ^ (n .inputs + length (stuckValues f))) (openedCircuitRow n f)
 
-module _ (top : ℕ) (n : Netlist) (f : Fault) (right : FaultRight top f) where
+module _ (top : ℕ) (n : Netlist) (f : Fault) (right : StuckFault top f) where
   opened-row : (x : ℕ) → x < 2 ^ n .inputs → openedCircuitRow n f (openedRowNumber (n .inputs) (stuckValues f) x) ≡ rowValue n f x
-  unfolding openedCircuitRow
+  unfolding openedCircuitRow driven
   opened-row x h =
       ap (rowValue n (driven (n .inputs) f y)) (number-low (stuckValues f) (n .inputs) (n .inputs) x (omega arith) ∙ mod-eq-of-lt h)
-      ∙ same-row n (driven (n .inputs) f y) f (λ line v g. same line v (omega arith)) x x (λ i g. same (i + 1) (applied x i) (omega arith))
+      ∙ same-row n (driven (n .inputs) f y) f (λ line v g. same line v (omega arith)) x x (λ i g. same (i + 1) (appliedUnder (f .bridge) x i) (omega arith))
     where
       y : ℕ
       y = openedRowNumber (n .inputs) (stuckValues f) x
@@ -162,11 +162,7 @@ opened-bounded n f w x l =
 
 -- The opened-line call on that circuit.
 
-then-done : (a : Answer) → andThen a Done ≡ a
-then-done Done = refl
-then-done (Refused number place) = refl
-
-module _ (top : ℕ) (n : Netlist) (f : Fault) (right : FaultRight top f) (well : WellFormed n) where
+module _ (top : ℕ) (n : Netlist) (f : Fault) (right : StuckFault top f) (well : WellFormed n) where
   opened-inputs : inputsOf (length (openedCircuitRows n f)) ≡ n .inputs + length (stuckValues f)
   opened-inputs =
       let some = well .inputs-low in
@@ -217,12 +213,13 @@ module _ (top : ℕ) (n : Netlist) (f : Fault) (right : FaultRight top f) (well 
 
 -- Fault k of an accepted text.
 
-module _ (text : List ℕ) (n : Netlist) (parsed : parseOf text ≡ accepted n) (k : ℕ) (low : 1 ≤ k) (high : k ≤ length (n .faults)) where
+module _ (text : List ℕ) (n : Netlist) (parsed : parseOf text ≡ accepted n) (k : ℕ) (low : 1 ≤ k) (high : k ≤ length (n .faults))
+    (unbridged : faultAt n k .bridge ≡ noBridge) where
   well : WellFormed n
   well = well-formed text n parsed
 
-  right : FaultRight (topOf n) (faultAt n k)
-  right = named-fault-right n k well low high
+  right : StuckFault (topOf n) (faultAt n k)
+  right = named-stuck-fault n k well low high unbridged
 
   pub opened-lines-answer : (room : ℕ) → openedAnswer (spectrumOf (openedCircuitRows n (faultAt n k))) (stuckValues (faultAt n k)) room ≡ circuitAnswer text k room
   opened-lines-answer room = opened-answer (topOf n) n (faultAt n k) right well room ∙ sym (circuit-answer-is text n parsed k high room)

@@ -1,6 +1,6 @@
 -- The stuck-input call and the circuit call agree (document 01, "Spectrum under a fault, from coefficients alone"):
---   input-rows    under a fault of inputs a circuit has its sound rows with those inputs replaced
--- and for fault k of an accepted text, where it names inputs only, the stuck-input call on what the circuit call writes for the sound circuit:
+--   input-rows    under a fault of stuck inputs a circuit has its sound rows with those inputs replaced
+-- and for fault k of an accepted text, where it is no bridge and names inputs only, the stuck-input call on what the circuit call writes for the sound circuit:
 --   stuck-inputs-answer, -done    answers as the circuit call does for fault k, so Done where there is room
 --   stuck-inputs-agree            writes what the circuit call writes for fault k
 use mathlib.Core.Path.{_≡_, refl, sym, ap, _∙_}
@@ -17,14 +17,14 @@ use Rattle.integer.specs.Tab.{tab}
 use Rattle.integer.proofs.Tabs.{tab-ext, getD-tab}
 use Rattle.netlist.specs.Circuits.{Netlist, faultAt}
 use Rattle.netlist.specs.Parsing.{accepted, parseOf}
-use Rattle.sections.specs.FaultLines.{Above, FaultRight}
+use Rattle.sections.specs.FaultLines.{Above, StuckFault}
 use Rattle.netlist.specs.WellFormed.{topOf}
 use Rattle.netlist.proofs.Acceptance.{well-formed}
 use Rattle.gates.specs.Gates.{stuckOr, shown, applied}
 use Rattle.simulation.specs.Rows.{inputShown, rowValue, rowsOf}
 use Rattle.simulation.proofs.RowBounds.{length-rows}
-use Rattle.simulation.proofs.Showing.{others-keep, sound-keeps}
-use Rattle.statements.specs.Items.{sound}
+use Rattle.simulation.proofs.Showing.{others-keep, sound-keeps, unbridged-shown}
+use Rattle.statements.specs.Items.{noBridge, sound}
 use Rattle.statements.specs.declared.Fault.{Fault}
 use Rattle.statements.specs.declared.Pair.{Pair}
 use Rattle.screen.specs.declared.Answer.the-variants.{Done}
@@ -37,10 +37,9 @@ use Rattle.devices.specs.Problems.{problemFrom}
 use Rattle.devices.proofs.ProblemRows.{fault-count, circuit-rows}
 use Rattle.devices.proofs.TextKinds.{circuit-described}
 use Rattle.lookup.specs.StuckPairs.{presentPairs, pairLine, bitFor, pairValue, stuckLines, stuckValues, pairsOf, OfInputs}
-use Rattle.lookup.specs.TableRows.{faultRow}
 use Rattle.lookup.proofs.StuckPairs.{bit-small, pairs-rise}
-use Rattle.lookup.proofs.PairRows.{fault-row-below}
-use Rattle.agreement.proofs.Accepted.{named-fault-right}
+use Rattle.lookup.proofs.PairRows.{stuck-row-below}
+use Rattle.agreement.proofs.Accepted.{named-stuck-fault}
 use Rattle.agreement.proofs.Pairs.{bit-back, shownBy, shown-by-pairs}
 use Rattle.agreement.proofs.StuckProblems.{StuckProblem, stuck-problem-answer, stuck-problem-done, stuck-problem-agree}
 use Rattle.agreement.proofs.SameRows.{same-row}
@@ -90,7 +89,7 @@ replaced-applied (s ∷ rest) last top r x i = replaced-applied rest (s .line) t
 -- A fault of inputs.
 
 -- right for the inputs alone
-pub input-fault : (n : Netlist) (f : Fault) → FaultRight (topOf n) f → OfInputs (n .inputs) f → FaultRight (n .inputs) f
+pub input-fault : (n : Netlist) (f : Fault) → StuckFault (topOf n) f → OfInputs (n .inputs) f → StuckFault (n .inputs) f
 input-fault n f r o =
     record {
       first-low = r .first-low;
@@ -98,19 +97,19 @@ input-fault n f r o =
       second = narrow (f .first .line) (f .second) (r .second) (o .second);
       third = narrow (f .second .line) (f .third) (r .third) (o .third);
       no-gap = r .no-gap;
+      unbridged = r .unbridged;
     }
   where
     narrow : (last : ℕ) (s : Pair) → Above last (topOf n) s → s .line ≤ n .inputs → Above last (n .inputs) s
     narrow last s (inl none) h = inl none
     narrow last s (inr some) h = inr (some .0, h)
 
-module _ (n : Netlist) (f : Fault) (right : FaultRight (topOf n) f) (inputs-only : OfInputs (n .inputs) f) where
+module _ (n : Netlist) (f : Fault) (right : StuckFault (topOf n) f) (inputs-only : OfInputs (n .inputs) f) where
   rises : Rises 0 (n .inputs) (pairsOf f)
   rises = pairs-rise (n .inputs) f (input-fault n f right inputs-only)
 
   row-stays : (x : ℕ) → x < 2 ^ n .inputs → replacedAll (pairsOf f) x < 2 ^ n .inputs
-  unfolding faultRow
-  row-stays x h = fault-row-below (n .inputs) f x inputs-only h
+  row-stays x h = stuck-row-below (n .inputs) f x inputs-only h
 
   input-row : (x : ℕ) → rowValue n f x ≡ rowValue n sound (replacedAll (pairsOf f) x)
   unfolding pairsOf stuckLines stuckValues
@@ -125,9 +124,11 @@ module _ (n : Netlist) (f : Fault) (right : FaultRight (topOf n) f) (inputs-only
 
       inputs : (i : ℕ) → i < n .inputs → inputShown f x i ≡ inputShown sound (replacedAll (pairsOf f) x) i
       inputs i h =
-          shown-by-pairs f (i + 1) (applied x i) (omega arith)
+          unbridged-shown f x i (right .unbridged)
+          ∙ shown-by-pairs f (i + 1) (applied x i) (omega arith)
           ∙ sym (replaced-applied (presentPairs f) 0 (n .inputs) rises x i)
           ∙ sym (sound-keeps (i + 1) (applied (replacedAll (pairsOf f) x) i) (omega arith))
+          ∙ sym (unbridged-shown sound (replacedAll (pairsOf f) x) i refl)
 
   pub input-rows : rowsOf n f ≡ stuckRows (pairsOf f) (rowsOf n sound)
   unfolding rowsOf stuckRows stuckRow
@@ -138,9 +139,10 @@ module _ (n : Netlist) (f : Fault) (right : FaultRight (topOf n) f) (inputs-only
 
 -- Fault k of an accepted text.
 
-module _ (text : List ℕ) (n : Netlist) (parsed : parseOf text ≡ accepted n) (k : ℕ) (low : 1 ≤ k) (high : k ≤ length (n .faults)) (inputs-only : OfInputs (n .inputs) (faultAt n k)) where
-  right : FaultRight (topOf n) (faultAt n k)
-  right = named-fault-right n k (well-formed text n parsed) low high
+module _ (text : List ℕ) (n : Netlist) (parsed : parseOf text ≡ accepted n) (k : ℕ) (low : 1 ≤ k) (high : k ≤ length (n .faults))
+    (unbridged : faultAt n k .bridge ≡ noBridge) (inputs-only : OfInputs (n .inputs) (faultAt n k)) where
+  right : StuckFault (topOf n) (faultAt n k)
+  right = named-stuck-fault n k (well-formed text n parsed) low high unbridged
 
   agrees : StuckProblem text (circuitProblem n) k (faultAt n k)
   unfolding circuitProblem problemFrom

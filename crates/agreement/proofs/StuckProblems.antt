@@ -9,7 +9,7 @@ use native.Mathlib.Omega.{arith}
 use lib.Dec.{lit≤}
 use lib.ListN.{length}
 use Rattle.integer.proofs.Bounds.{within-more}
-use Rattle.sections.specs.FaultLines.{FaultRight}
+use Rattle.sections.specs.FaultLines.{StuckFault}
 use Rattle.statements.specs.declared.Fault.{Fault}
 use Rattle.screen.specs.Answers.{inputsOf}
 use Rattle.screen.specs.declared.Answer.the-variants.{Done}
@@ -31,7 +31,7 @@ use Rattle.agreement.proofs.Accepted.{spectrum-is, answer-is, room-enou
 pub record StuckProblem (text : List ℕ) (p : Problem) (k : ℕ) (f : Fault) : Type 0 where
   pub is : descriptionOf text ≡ described p
   pub named : k ≤ length (p .faulted)
-  pub right : FaultRight (p .inputs) f
+  pub right : StuckFault (p .inputs) f
   pub rows : rowsAt p k ≡ stuckRows (pairsOf f) (rowsAt p 0)
 
 module _ {text : List ℕ} {p : Problem} {k : ℕ} {f : Fault} (s : StuckProblem text p k f) where

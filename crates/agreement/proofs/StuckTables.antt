@@ -1,5 +1,5 @@
--- The stuck-input call and the circuit call agree on tables (document 02, note 1): for fault k of an accepted table, the stuck-input call on what the circuit
--- call writes for the sound table
+-- The stuck-input call and the circuit call agree on tables (document 02, note 1): for fault k of an accepted table that is no bridge, the stuck-input call on
+-- what the circuit call writes for the sound table
 --   table-inputs-answer, -done    answers as the circuit call does for fault k, with any lent length, so Done where there is room
 --   table-inputs-agree            writes what the circuit call writes for fault k
 use mathlib.Core.Path.{_≡_, _∙_}
@@ -8,6 +8,7 @@ use Prim.Native.Nat.{ℕ, zero, suc, _^_, _≤_}
 use native.Mathlib.Omega.{arith}
 use lib.ListN.{length}
 use Rattle.sections.specs.FaultLines.{FaultRight}
+use Rattle.statements.specs.Items.{noBridge}
 use Rattle.screen.specs.declared.Answer.the-variants.{Done}
 use Rattle.faults.specs.Faults.{stuckOf, stuckAnswer, stuckSpectrumOf}
 use Rattle.tables.specs.Tables.{TruthTable, tableFaultAt}
@@ -22,13 +23,15 @@ use Rattle.devices.specs.Problems.{problemFrom}
 use Rattle.devices.proofs.ProblemRows.{fault-count, table-rows}
 use Rattle.devices.proofs.TextKinds.{table-described}
 use Rattle.circuit.specs.CircuitCall.{circuitAnswer, circuitSpectrum}
+use Rattle.agreement.proofs.Accepted.{right-unbridged}
 use Rattle.agreement.proofs.StuckProblems.{StuckProblem, stuck-problem-answer, stuck-problem-done, stuck-problem-agree}
 
-named-table-fault : (t : TruthTable) (k : ℕ) → TableRight t → 1 ≤ k → k ≤ length (t .faults) → FaultRight (t .inputs) (tableFaultAt t k)
+pub named-table-fault : (t : TruthTable) (k : ℕ) → TableRight t → 1 ≤ k → k ≤ length (t .faults) → FaultRight (t .inputs) (t .inputs) (tableFaultAt t k)
 named-table-fault t zero w low high = absurd (omega arith)
 named-table-fault t (suc k) w low high = w .faults-right k (omega arith)
 
-module _ (text : List ℕ) (t : TruthTable) (parsed : tableOf text ≡ acceptedTable t) (k : ℕ) (low : 1 ≤ k) (high : k ≤ length (t .faults)) where
+module _ (text : List ℕ) (t : TruthTable) (parsed : tableOf text ≡ acceptedTable t) (k : ℕ) (low : 1 ≤ k) (high : k ≤ length (t .faults))
+    (unbridged : tableFaultAt t k .bridge ≡ noBridge) where
   agrees : StuckProblem text (tableProblem t) k (tableFaultAt t k)
   unfolding tableProblem problemFrom
   agrees =
@@ -36,8 +39,8 @@ module _ (text : List ℕ) (t : TruthTable) (parsed : tableOf text ≡ acceptedT
       record {
         is = table-described text t parsed;
         named = let q = fault-count (t .inputs) (tableRows t) (t .faults) (t .cap) in omega (arith, q, high);
-        right = named-table-fault t k w low high;
-        rows = table-rows t k high ∙ stuck-table-rows t (tableFaultAt t k) (table-fault-of-inputs t k w);
+        right = right-unbridged (t .inputs) (t .inputs) (tableFaultAt t k) (named-table-fault t k w low high) unbridged;
+        rows = table-rows t k high ∙ stuck-table-rows t (tableFaultAt t k) unbridged (table-fault-of-inputs t k w);
       }
 
   pub table-inputs-answer : (room : ℕ) → stuckAnswer (circuitSpectrum text 0) (stuckLines (tableFaultAt t k)) (stuckValues (tableFaultAt t k)) room ≡ circuitAnswer text k room

@@ -16,9 +16,9 @@ use Rattle.lookup.specs.StuckPairs.{stuckValues}
 abbrev pub drivenBy : ℕ → ℕ → Pair → Pair
 drivenBy x i s = record { line = s .line; value = applied x i }
 
--- the first line is driven by bit n of row x, and each further one by the next bit
+-- the first line is driven by bit n of row x, and each further one by the next bit; nothing else of the fault changes
 unfoldable pub driven : ℕ → Fault → ℕ → Fault
-driven n f x = record { first = drivenBy x n (f .first); second = drivenBy x (n + 1) (f .second); third = drivenBy x (n + 2) (f .third) }
+driven n f x = record { first = drivenBy x n (f .first); second = drivenBy x (n + 1) (f .second); third = drivenBy x (n + 2) (f .third); bridge = f .bridge }
 
 -- the lowest N bits are applied to the inputs
 unfoldable pub openedCircuitRow : Netlist → Fault → ℕ → ℤ

@@ -9,6 +9,7 @@ use replies::Sum;
 use replies::Written;
 ghost use mathlib.Core.Path.{_≡_};
 ghost use lib.ListN.{length};
+ghost use Rattle.bridges.specs.Bridges.{bridgedAnswer, bridgedSpectrumOf};
 ghost use Rattle.faults.specs.Faults.{stuckOf, stuckAnswer, stuckSpectrumOf, openedAnswer, openedSpectrumOf};
 ghost use Rattle.fixture.specs.ReadingCall.{readingAnswer, pairAnswer};
 ghost use Rattle.circuit.specs.CircuitCall.{circuitAnswer, circuitSpectrum};
@@ -68,6 +69,20 @@ pub extern "C" fn walsh_opened(coefficients: &[i32], values: &[u32], out: &mut [
     ensures { λ r. ⌜ now (out .exit) ≡ leaves (openedAnswer (now (coefficients .entry)) (now (values .entry)) (length (now (out .entry)))) (openedSpectrumOf (now (coefficients .entry)) (now (values .entry))) (now (out .entry)) ⌝ }
 {
     replies::to_reply(faults::opened(coefficients, values, out))
+}
+
+// The spectrum with two inputs bridged.
+#[no_mangle]
+pub extern "C" fn walsh_bridged(
+    coefficients: &[i32],
+    first: u32,
+    second: u32,
+    out: &mut [i32],
+) -> Reply
+    ensures { λ r. ⌜ Gives r (bridgedAnswer (now (coefficients .entry)) first second (length (now (out .entry)))) ⌝ }
+    ensures { λ r. ⌜ now (out .exit) ≡ leaves (bridgedAnswer (now (coefficients .entry)) first second (length (now (out .entry)))) (bridgedSpectrumOf first second (now (coefficients .entry))) (now (out .entry)) ⌝ }
+{
+    replies::to_reply(bridges::bridged(coefficients, first, second, out))
 }
 
 // The spectrum of the text's circuit, sound for fault 0, else under that fault.

@@ -9,6 +9,7 @@ pub enum Call {
     Rows,
     Stuck,
     Opened,
+    Bridged,
     Circuit,
     Plan,
     Report,
@@ -46,6 +47,9 @@ fn call_on_a_list(word: &[u8]) -> Call {
     }
     if text::same(word, b"opened     ") {
         return Call::Opened;
+    }
+    if text::same(word, b"bridged    ") {
+        return Call::Bridged;
     }
     call_on_a_text(word)
 }
@@ -149,6 +153,7 @@ pub fn is_right(h: CaseHead) -> bool {
         Call::Rows => is_on_a_list(h, 0, 0),
         Call::Stuck => is_on_a_list(h, h.first, h.second),
         Call::Opened => is_on_a_list(h, h.first, 0),
+        Call::Bridged => is_on_a_list(h, 2, 0),
         Call::Circuit => is_on_a_text(h, 0, 1, 0) && h.work == 0,
         Call::Plan => is_on_a_text(h, 0, 0, 0) && h.room == 0,
         Call::Report => is_on_a_text(h, 0, 0, 0),

@@ -99,6 +99,14 @@ pub fn integers(bytes: &[u8], list: &mut [i32]) -> bool {
     true
 }
 
+// Argument i, from 0.
+pub fn argument(arguments: &[u32], i: usize) -> u32 {
+    if arguments.len() <= i {
+        return 0;
+    }
+    arguments[i]
+}
+
 // The number at `at`, which is not negative.
 fn natural_at(bytes: &[u8], at: usize) -> u64
     requires { ⌜ at + 12 ≤ length (now bytes) ⌝ }

@@ -3,18 +3,24 @@
 --   demand-two      spectra both ways, under faults too, and readings
 --   all-demands     these and planner's demand-three
 use mathlib.Core.Bool.{true, false, false≢true}
-use mathlib.Core.List.{List}
+use mathlib.Core.List.{List, []}
 use mathlib.Core.Path.{_≡_, refl, sym, ap, _∙_, subst}
-use mathlib.Core.Logic.{_↔_, inl, inr, ⊎-elim}
-use Prim.Native.Nat.{ℕ}
-use Rattle.statements.proofs.FormsMeant.{head-form, gate-form, output-form, fault-form}
-use Rattle.statements.proofs.LineNumbers.{head-least, gate-least, output-least, fault-least}
+use mathlib.Core.Logic.{_↔_, _⊎_, inl, inr, ⊎-elim}
+use Prim.Native.Nat.{ℕ, _≤_}
+use native.Mathlib.Omega.{arith}
+use Rattle.statements.specs.Lines.{bridgeWord, namesBridge}
+use Rattle.sections.proofs.BridgesWritten.{lines-as-before}
+use Rattle.statements.proofs.FormsMeant.{head-form, gate-form, output-form, fault-form, bridge-form, fault-line-form}
+use Rattle.statements.proofs.LineNumbers.{head-least, gate-least, output-least, fault-least, bridge-least}
 use Rattle.netlist.specs.Circuits.{Netlist}
+use Rattle.netlist.specs.Places.{CircuitLineNumber}
 use Rattle.netlist.specs.Parsing.{Parse, accepted, rejected, parseOf}
 use Rattle.netlist.proofs.AcceptedTexts.{texts-exactly, accepted-short}
 use Rattle.netlist.proofs.Refusals.{one-exactly, line-exactly, seven-exactly, none-exactly, text-refused}
 use Rattle.walsh.specs.Lists.{spectrumAnswer, rowsAnswer}
 use Rattle.faults.specs.Faults.{stuckAnswer, openedAnswer}
+use Rattle.bridges.specs.Bridges.{bridgedAnswer}
+use Rattle.bridges.proofs.BridgedCall.{unhalved-first}
 use Rattle.circuit.specs.CircuitCall.{circuitAnswer}
 use Rattle.circuit.proofs.CircuitLaws.{circuit-done}
 use Rattle.planner.proofs.Demanded.{demand-three}
@@ -34,13 +40,19 @@ use Rattle.devices.proofs.Descriptions.{table-text, circuit-text}
 use Rattle.devices.proofs.TextKinds.{table-unparsed}
 use Rattle.report.proofs.PrintedLabels.{printed-covers, printed-line}
 use Rattle.fixture.proofs.Exactly.{reading-exact, pair-exact}
-use Rattle.demands.specs.DemandOne.{TextsAnswered, TablesAnswered, KindsTold, LinesNumbered, DemandOne}
+use Rattle.demands.specs.DemandOne.{TextsAnswered, TablesAnswered, KindsTold, BridgesTold, LinesNumbered, DemandOne}
 use Rattle.demands.specs.DemandTwo.{DemandTwo}
 use Rattle.demands.specs.Demands.{Demands}
-use Rattle.demands.proofs.ListCalls.{spectrum-tested, rows-tested, coefficient-tested, stuck-tested, opened-tested, writes-of, spectrum-zero, rows-zero, stuck-zero, opened-zero, coefficient-zero}
+use Rattle.demands.proofs.ListCalls.{spectrum-tested, rows-tested, coefficient-tested, stuck-tested, opened-tested, bridged-tested, writes-of, spectrum-zero, rows-zero, stuck-zero, opened-zero, bridged-zero, coefficient-zero}
 use Rattle.demands.proofs.TextCalls.{circuit-tested, plan-tested, report-tested, reading-tested, pair-tested, plan-writing, report-writing, report-working, plan-zero, report-zero, reading-zero, pair-zero, tables-unread, tables-unpaired}
 use Rattle.demands.proofs.PlansMeant.{demand-three-circuit, demand-three-table}
 use Rattle.demands.proofs.SpectraCircuits.{spectra-right, faulty-spectra-right, circuits-right, tables-right, readings-right, case-right}
+
+-- the numbers of a line and 7 together
+numbered : (number : ℕ) → (number ≡ 7) ⊎ CircuitLineNumber number → ((2 ≤ number) × (number ≤ 7)) ⊎ (number ≡ 19)
+numbered number (inl seven) = inl (omega arith, omega arith)
+numbered number (inr (inl line)) = inl (line .0, omega (arith, line .1))
+numbered number (inr (inr bridge)) = inr bridge
 
 texts-answered : (text : List ℕ) → TextsAnswered text
 texts-answered text =
@@ -48,7 +60,7 @@ texts-answered text =
       too-long = one-exactly text;
       line = line-exactly text;
       bytes-follow = seven-exactly text;
-      no-other = λ number place e. ⊎-elim inl (λ line. inr (line .number-low, line .number-high)) (text-refused text number place e);
+      no-other = λ number place e. ⊎-elim inl (λ line. inr (numbered number (line .number-is))) (text-refused text number place e);
       accept = texts-exactly text;
       none-applies = none-exactly text;
       short = accepted-short text;
@@ -101,6 +113,14 @@ kinds-told text =
       unread = table-unparsed text;
     }
 
+bridges-told : BridgesTold
+unfolding namesBridge
+bridges-told =
+    record {
+      word = λ l. (same-equal (fieldOf l 0) bridgeWord, λ e. ap (λ (w : List ℕ). sameBytes w bridgeWord) e ∙ same-self bridgeWord);
+      as-before = λ inputs top count place rest plain. lines-as-before inputs top count place rest [] plain;
+    }
+
 lines-numbered : (l : List ℕ) → LinesNumbered l
 lines-numbered l =
     record {
@@ -108,6 +128,7 @@ lines-numbered l =
       gate = λ own. gate-least own l;
       output = λ top. output-least top l;
       fault = λ top. fault-least top l;
+      bridge = λ inputs. bridge-least inputs l;
       table-head = table-head-least l;
       marks = λ inputs. marks-least inputs l;
     }
@@ -118,7 +139,8 @@ demand-one =
       texts = texts-answered;
       tables = tables-answered;
       kinds = kinds-told;
-      lines = record { head = head-form; gate = gate-form; output = output-form; fault = fault-form; table-head = table-head-form; marks = mark-form };
+      bridge-lines = bridges-told;
+      lines = record { head = head-form; gate = gate-form; output = output-form; fault = fault-form; bridge = bridge-form; fault-line = fault-line-form; table-head = table-head-form; marks = mark-form };
       numbers = lines-numbered;
       circuit = circuit-tested;
       plan = plan-tested;
@@ -132,11 +154,14 @@ demand-one =
       rows = rows-tested;
       stuck = stuck-tested;
       opened = opened-tested;
+      bridged = bridged-tested;
+      bridged-place = λ c i j room e. let p = unhalved-first c i j room e in (p .no-first, p .no-second);
       circuit-writes = λ text fault room. writes-of (circuitAnswer text fault room) (circuit-done text fault room);
       spectrum-writes = λ rows room. writes-of (spectrumAnswer rows room) (spectrum-zero rows room);
       rows-writes = λ c room. writes-of (rowsAnswer c room) (rows-zero c room);
       stuck-writes = λ c inputs values room. writes-of (stuckAnswer c inputs values room) (stuck-zero c inputs values room);
       opened-writes = λ c values room. writes-of (openedAnswer c values room) (opened-zero c values room);
+      bridged-writes = λ c i j room. writes-of (bridgedAnswer c i j room) (bridged-zero c i j room);
       plan-writes = plan-writing;
       report-writes = report-writing;
       report-work = report-working;

@@ -1,8 +1,8 @@
 -- The calls on lists refuse by the paper's tests, in their order:
 --   refused-if                                                     one test of a chain
---   coefficient-tested, spectrum-tested, rows-tested, stuck-tested, opened-tested    each call
+--   coefficient-tested, spectrum-tested, rows-tested, stuck-tested, opened-tested, bridged-tested    each call
 --   writes-of                                                      a refusal writes nothing, where number 0 is given only if the call is done
---   spectrum-zero, rows-zero, stuck-zero, opened-zero              as it is for each call; coefficient-zero: a refused coefficient is 0
+--   spectrum-zero, rows-zero, stuck-zero, opened-zero, bridged-zero    as it is for each call; coefficient-zero: a refused coefficient is 0
 use mathlib.Core.Path.{_≡_, refl, sym, ap, _∙_, subst}
 use mathlib.Core.Bool.{Bool, true, false, not, true≢false}
 use mathlib.Core.List.{List}
@@ -24,7 +24,7 @@ use Rattle.integer.proofs.Firsts.{first-before, first-at, first-all}
 use Rattle.screen.specs.Answers.{answerNumber, answerPlace, andThen, refuseIf, minus, inputsOf, outsideAt, outside, firstOutside, screenOf}
 use Rattle.screen.specs.declared.Answer.{Answer}
 use Rattle.screen.specs.declared.Answer.the-variants.{Done, Refused}
-use Rattle.screen.proofs.Screens.{above-zero, inputs-power, inputs-most, inputs-is, outside-small, small-outside, ready}
+use Rattle.screen.proofs.Screens.{above-zero, inputs-power, inputs-most, inputs-is, outside-small, small-outside, ready, then-done}
 use Rattle.transform.specs.Spectrum.{coefficientOf, spectrumOf}
 use Rattle.transform.proofs.Spectra.{length-spectrum, nth-spectrum}
 use Rattle.results.specs.Results.{leaves}
@@ -35,8 +35,11 @@ use Rattle.walsh.specs.Lists.{spectrumAnswer, rowsAnswer}
 use Rattle.faults.specs.Faults.{stuckRight, stuckAnswer, openedRight, keptInputs, undividedAt, firstUndivided, undividedAnswer, openedAnswer}
 use Rattle.faults.proofs.Faulted.{undivided-means, means-undivided}
 use Rattle.faults.proofs.ArgumentsMean.{stuck-arguments, opened-arguments}
+use Rattle.bridges.specs.Bridges.{bridgeRight, unhalvedAt, firstUnhalved, unhalvedAnswer, bridgedAnswer}
+use Rattle.bridges.proofs.BridgeArgumentsMean.{bridge-arguments}
+use Rattle.bridges.proofs.BridgedCall.{bridgedScreen, unhalved-means, means-unhalved}
 use Rattle.demands.specs.Tests.{NoRefusal, RefusedIf, by-this, by-later}
-use Rattle.demands.specs.Refusals.{PowerLength, FirstOf, BeyondAt, NoRowAt, UndividedAt, ListTests, CoefficientTests, SpectrumTests, RowsTests, StuckTests, OpenedTests}
+use Rattle.demands.specs.Refusals.{PowerLength, FirstOf, BeyondAt, NoRowAt, UndividedAt, UnhalvedAt, ListTests, CoefficientTests, SpectrumTests, RowsTests, StuckTests, OpenedTests, BridgedTests}
 use Rattle.demands.specs.DemandOne.{Writes}
 
 -- one test: N and P are the number and the place that are answered, by whether it fails
@@ -166,10 +169,6 @@ module _ (d : ℕ) (some : 0 < d) (z : ℤ) where
           size (yes q) = let m : d * natAbs (quotientOf d z) ≤ d * 1000 = mul-le-mul (le-refl d) q in absurd (omega (arith, times e))
           size (no q) = lt-of-not-le q
 
-and-done : (a : Answer) → andThen a Done ≡ a
-and-done Done = refl
-and-done (Refused number place) = refl
-
 always : _↔_ {0, 0} (true ≡ true) Unit
 always = (λ e. tt, λ u. refl)
 
@@ -177,7 +176,7 @@ pub spectrum-tested : (rows : List ℤ) (room : ℕ) → SpectrumTests rows room
 unfolding spectrumAnswer
 spectrum-tested rows room =
     let s = screenOf (minus 1000) (pos 1000) true rows room (length rows) in
-    subst (λ a. SpectrumTests rows room (answerNumber a) (answerPlace a)) (and-done s)
+    subst (λ a. SpectrumTests rows room (answerNumber a) (answerPlace a)) (then-done s)
     (screen-tested 1000 true Unit always rows room (length rows) Done NoRefusal (λ e. (refl, refl)))
 
 pub coefficient-tested : (rows : List ℤ) (label : ℕ) → CoefficientTests rows label (foundNumber (foundOf rows label)) (foundPlace (foundOf rows label))
@@ -196,7 +195,7 @@ unfolding stuckAnswer
 stuck-tested c inputs values room =
     let n = inputsOf (length c) in
     let s = screenOf (minus 2048000) (pos 2048000) (stuckRight n inputs values) c room (length c) in
-    subst (λ a. StuckTests c inputs values room (answerNumber a) (answerPlace a)) (and-done s)
+    subst (λ a. StuckTests c inputs values room (answerNumber a) (answerPlace a)) (then-done s)
     (screen-tested 2048000 (stuckRight n inputs values) _ (stuck-arguments n inputs values) c room (length c) Done NoRefusal (λ e. (refl, refl)))
 
 pub rows-tested : (c : List ℤ) (room : ℕ) → RowsTests c room (answerNumber (rowsAnswer c room)) (answerPlace (rowsAnswer c room))
@@ -247,6 +246,20 @@ opened-tested c values room = screen-tested 2048000 (openedRight (inputsOf (leng
         (λ t. (first-bad (undividedAt c values) due (UndividedAt c values) (λ x h. undivided-means c values x) (λ x h. means-undivided c values x) t, refl))
         (λ t. (no-bad (undividedAt c values) due (UndividedAt c values) (λ x h. undivided-means c values x) (λ x h. means-undivided c values x) t, (refl, refl)))
 
+pub bridged-tested : (c : List ℤ) (i j room : ℕ) → BridgedTests c i j room (answerNumber (bridgedAnswer c i j room)) (answerPlace (bridgedAnswer c i j room))
+unfolding bridgedAnswer unhalvedAnswer firstUnhalved
+bridged-tested c i j room = screen-tested 2048000 (bridgeRight n i j) _ (bridge-arguments n i j) c room (length c) (unhalvedAnswer i j c) _ later-tests
+  where
+    n : ℕ
+    n = inputsOf (length c)
+
+    later-tests : bridgedScreen c i j room ≡ Done
+        → RefusedIf 11 (FirstOf (length c) (UnhalvedAt c i j)) NoRefusal (answerNumber (unhalvedAnswer i j c)) (answerPlace (unhalvedAnswer i j c))
+    later-tests e =
+        refused-if (ltb (firstUnhalved i j c) (length c)) (λ t. answerNumber (refuseIf t 11 (firstUnhalved i j c) Done)) (λ t. answerPlace (refuseIf t 11 (firstUnhalved i j c) Done))
+        (λ t. (first-bad (unhalvedAt i j c) (length c) (UnhalvedAt c i j) (λ x h. unhalved-means c i j x) (λ x h. means-unhalved c i j x) t, refl))
+        (λ t. (no-bad (unhalvedAt i j c) (length c) (UnhalvedAt c i j) (λ x h. unhalved-means c i j x) (λ x h. means-unhalved c i j x) t, (refl, refl)))
+
 -- ---- a refusal writes nothing
 
 -- number 0 is given only where the call is done
@@ -295,6 +308,13 @@ opened-zero c values room =
     then-zero (screenOf (minus 2048000) (pos 2048000) (openedRight (inputsOf (length c)) values) c room (2 ^ keptInputs c values)) _
     (screen-zero (minus 2048000) (pos 2048000) (openedRight (inputsOf (length c)) values) c room (2 ^ keptInputs c values))
     (refuse-zero (ltb (firstUndivided c values) (2 ^ keptInputs c values)) 11 _ Done (lit≤ tt) (λ z. refl))
+
+pub bridged-zero : (c : List ℤ) (i j room : ℕ) → ZeroDone (bridgedAnswer c i j room)
+unfolding bridgedAnswer unhalvedAnswer
+bridged-zero c i j room =
+    let right = bridgeRight (inputsOf (length c)) i j in
+    then-zero (bridgedScreen c i j room) _ (screen-zero (minus 2048000) (pos 2048000) right c room (length c))
+    (refuse-zero (ltb (firstUnhalved i j c) (length c)) 11 _ Done (lit≤ tt) (λ z. refl))
 
 -- "Sizes, labels and readings returned with a refusal are 0": so is the coefficient
 pub coefficient-zero : (rows : List ℤ) (label : ℕ) → (foundNumber (foundOf rows label) ≡ 0 → ⊥) → foundValue (foundOf rows label) ≡ pos 0

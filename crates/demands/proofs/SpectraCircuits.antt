@@ -28,30 +28,35 @@ use Rattle.walsh.specs.Coefficients.{found, foundOf, foundNumber, foundValue}
 use Rattle.walsh.specs.Lists.{rowsAnswer}
 use Rattle.walsh.proofs.Undoing.{undo, redo, refused-exactly}
 use Rattle.faults.proofs.Faulted.{stuck-faulted, opened-faulted, opened-never-11}
+use Rattle.bridges.proofs.BridgedCall.{bridged-faulted, bridged-never-11}
 use Rattle.statements.specs.Items.{noOutput, sound}
 use Rattle.statements.specs.declared.Output.{Output}
 use Rattle.netlist.specs.Circuits.{Netlist, faultAt}
 use Rattle.netlist.specs.Parsing.{accepted, parseOf}
+use Rattle.netlist.proofs.Acceptance.{well-formed}
 use Rattle.simulation.specs.Rows.{rowValue, rowsOf}
 use Rattle.tables.specs.Tables.{TruthTable, tableFaultAt}
 use Rattle.tables.specs.TableParsing.{acceptedTable, tableOf}
 use Rattle.tables.proofs.TableAcceptance.{table-right}
 use Rattle.lookup.specs.TableRows.{tableRow}
-use Rattle.lookup.proofs.RowsOfTables.{sound-mark, table-row-is}
+use Rattle.simulation.proofs.Showing.{unbridged-shown}
+use Rattle.lookup.proofs.RowsOfTables.{sound-mark, table-row-is, stuck-row-is}
 use Rattle.lookup.proofs.FreeRows.{free-rows-half}
 use Rattle.devices.specs.Devices.{tableProblem}
 use Rattle.devices.proofs.ProblemRows.{table-rows}
 use Rattle.devices.proofs.TextKinds.{table-described}
-use Rattle.agreement.proofs.Accepted.{spectrum-is, circuit-spectrum-is}
+use Rattle.agreement.proofs.Accepted.{named-bridge-fault, spectrum-is, circuit-spectrum-is}
 use Rattle.agreement.proofs.StuckTables.{table-inputs-answer, table-inputs-agree}
 use Rattle.agreement.proofs.StuckInputs.{stuck-inputs-agree}
 use Rattle.agreement.proofs.OpenedLines.{opened-lines-agree}
+use Rattle.agreement.proofs.BridgedInputs.{bridge-rows, bridges-answer, bridges-agree}
+use Rattle.agreement.proofs.BridgedTables.{table-bridge-rows, table-bridges-answer, table-bridges-agree}
 use Rattle.reading.proofs.AgreeingRows.{agrees-exactly}
 use Rattle.reading.specs.Readings.{caseOf, readingNumber}
 use Rattle.reading.specs.declared.Reading.{Reading}
 use Rattle.fixture.specs.ReadingCall.{someAboveOne, isWeighted, faultMean, fixesInputs, unless12, readingAnswer, sumOf, rowCount}
 use Rattle.demands.specs.DemandTwo.{SpectraRight, FaultySpectraRight, CircuitsRight, TablesRight, ReadingsRight, AboveOne, CaseRight}
-use Rattle.demands.proofs.ListCalls.{ZeroDone, screen-zero, spectrum-zero, rows-zero, stuck-zero, opened-zero}
+use Rattle.demands.proofs.ListCalls.{ZeroDone, screen-zero, spectrum-zero, rows-zero, stuck-zero, opened-zero, bridged-zero}
 
 -- ---- spectra
 
@@ -89,6 +94,8 @@ faulty-spectra-right =
       stuck = λ rows inputs values room z. stuck-faulted rows inputs values room (stuck-zero (spectrumOf rows) inputs values room z);
       opened = λ rows values room z. opened-faulted rows values room (opened-zero (spectrumOf rows) values room z);
       opened-divides = opened-never-11;
+      bridged = λ rows i j room z. bridged-faulted rows i j room (bridged-zero (spectrumOf rows) i j room z);
+      bridged-halves = bridged-never-11;
     }
 
 -- ---- circuits
@@ -99,8 +106,12 @@ circuits-right text n e =
     record {
       rows = λ k x h. getD-tab (2 ^ n .inputs) (rowValue n (faultAt n k)) (pos 0) x h;
       spectrum = circuit-spectrum-is text n e;
-      stuck-inputs = λ k named inputs-only. stuck-inputs-agree text n e k (named .0) (named .1) inputs-only;
-      opened-lines = λ k named. opened-lines-agree text n e k (named .0) (named .1);
+      unbridged = λ k x i none. unbridged-shown (faultAt n k) x i none;
+      stuck-inputs = λ k named unbridged inputs-only. stuck-inputs-agree text n e k (named .0) (named .1) unbridged inputs-only;
+      opened-lines = λ k named unbridged. opened-lines-agree text n e k (named .0) (named .1) unbridged;
+      bridged-rows = λ k named b. bridge-rows n (faultAt n k) (named-bridge-fault n k (well-formed text n e) (named .0) (named .1) b);
+      bridges = λ k named b. bridges-agree text n e k (named .0) (named .1) b;
+      bridges-answer = λ k room named b. bridges-answer text n e k (named .0) (named .1) b room;
     }
 
 -- ---- tables
@@ -113,8 +124,12 @@ tables-right text t e =
       sound-rows = λ x h. table-row-is t sound x h ∙ ap (λ (y : ℕ). pos (getD (t .marks) y 0)) (sound-mark x);
       spectrum = λ k h. spectrum-is text (tableProblem t) (table-described text t e) k ∙ ap spectrumOf (table-rows t k h);
       free-rows = λ k label. free-rows-half t (tableFaultAt t k) (table-right text t e) label;
-      stuck-inputs = λ k named. table-inputs-agree text t e k (named .0) (named .1);
-      stuck-answer = λ k room named. table-inputs-answer text t e k (named .0) (named .1) room;
+      unbridged = λ k x none. stuck-row-is (tableFaultAt t k) x none;
+      stuck-inputs = λ k named unbridged. table-inputs-agree text t e k (named .0) (named .1) unbridged;
+      stuck-answer = λ k room named unbridged. table-inputs-answer text t e k (named .0) (named .1) unbridged room;
+      bridged-rows = λ k named b. table-bridge-rows text t e k (named .0) (named .1) b;
+      bridges = λ k named b. table-bridges-agree text t e k (named .0) (named .1) b;
+      bridges-answer = λ k room named b. table-bridges-answer text t e k (named .0) (named .1) b room;
     }
 
 -- ---- readings

@@ -11,14 +11,17 @@ use mathlib.Core.Path.{_≡_}
 use lib.IntN.{ℤ, pos}
 use lib.ListN.{length, drop}
 use Rattle.fields.specs.Fields.{LeastFailing}
-use Rattle.statements.specs.LineForms.{HeadForm, GateForm, OutputForm, FaultForm}
-use Rattle.statements.specs.Lines.{headTests, headRefusal, gateTests, gateRefusal, outputTests, outputRefusal, faultTests, faultRefusal}
+use Rattle.statements.specs.LineForms.{HeadForm, GateForm, OutputForm, FaultForm, BridgeForm, FaultLineForm}
+use Rattle.statements.specs.Lines.{headTests, headRefusal, gateTests, gateRefusal, outputTests, outputRefusal, faultTests, faultRefusal, faultOf, bridgeTests, bridgeRefusal, namesBridge, faultLineOf}
+use Rattle.sections.specs.FaultLines.{nthFaultRefusal, nthStuckRefusal}
+use Rattle.sections.specs.Sections.{linesFrom, linesOf}
 use Rattle.screen.specs.Answers.{answerNumber, answerPlace}
 use Rattle.screen.specs.declared.Answer.{Answer}
 use Rattle.results.specs.Results.{written, leaves}
 use Rattle.walsh.specs.Coefficients.{foundOf, foundNumber, foundPlace, foundValue}
 use Rattle.walsh.specs.Lists.{spectrumAnswer, rowsAnswer}
-use Rattle.faults.specs.Faults.{stuckAnswer, openedAnswer}
+use Rattle.faults.specs.Faults.{bitOf, stuckAnswer, openedAnswer}
+use Rattle.bridges.specs.Bridges.{bridgedAnswer}
 use Rattle.netlist.specs.Circuits.{Netlist}
 use Rattle.netlist.specs.CircuitText.{textOf}
 use Rattle.netlist.specs.Parsing.{accepted, rejected, parseOf}
@@ -42,21 +45,21 @@ use Rattle.report.specs.ReportCall.{reportOf, reportAnswer, reportLeft, reportV
 use Rattle.reading.specs.Readings.{none, readingNumber, readingPlace, readingOf, fixedOf}
 use Rattle.fixture.specs.ReadingCall.{readingAnswer, pairAnswer}
 use Rattle.demands.specs.Tests.{NoRefusal, RefusedIf, AtNone, OnDevice, OnText}
-use Rattle.demands.specs.Refusals.{CoefficientTests, SpectrumTests, RowsTests, StuckTests, OpenedTests, CircuitTests, PlanTests, ReadingTests, PairTests}
+use Rattle.demands.specs.Refusals.{CoefficientTests, SpectrumTests, RowsTests, StuckTests, OpenedTests, BridgedTests, CircuitTests, PlanTests, ReadingTests, PairTests}
 
 -- "A malformed text gets its refusal number and place": each number exactly where it holds, and a text is accepted exactly when it is the one written from a
 -- well-formed circuit
 pub record TextsAnswered (text : List ℕ) : Type 0 where
   pub too-long : (parseOf text ≡ rejected 1 0) ↔ (16384 < length text)
-  pub line : (number place : ℕ) → ((parseOf text ≡ rejected number place) × (2 ≤ number) × (number ≤ 6)) ↔ LineFails text number place
+  pub line : (number place : ℕ) → ((parseOf text ≡ rejected number place) × (((2 ≤ number) × (number ≤ 6)) ⊎ (number ≡ 19))) ↔ LineFails text number place
   pub bytes-follow : (place : ℕ) → (parseOf text ≡ rejected 7 place) ↔ BytesFollow text place
-  pub no-other : (number place : ℕ) → parseOf text ≡ rejected number place → ((number ≡ 1) × (place ≡ 0)) ⊎ ((2 ≤ number) × (number ≤ 7))
+  pub no-other : (number place : ℕ) → parseOf text ≡ rejected number place → ((number ≡ 1) × (place ≡ 0)) ⊎ (((2 ≤ number) × (number ≤ 7)) ⊎ (number ≡ 19))
   pub accept : (n : Netlist) → (parseOf text ≡ accepted n) ↔ (WellFormed n × (text ≡ textOf n))
-  -- "A text is accepted exactly when none of 1 to 7 applies."
+  -- "A text is accepted exactly when none of 1 to 7 applies", nor 19
   pub none-applies : ((n : Netlist) × (parseOf text ≡ accepted n)) ↔ NoneApplies text
   pub short : (n : Netlist) → parseOf text ≡ accepted n → length text ≤ 1512
 
--- the same of tables (document 02, note 1): 2, 3, 5 and 6 at a line, 15 at line 2, 7 at the line after the last
+-- the same of tables (document 02, notes 1 and 8): 2, 3, 5, 6 and 19 at a line, 15 at line 2, 7 at the line after the last
 pub record TablesAnswered (text : List ℕ) : Type 0 where
   pub too-long : (tableOf text ≡ rejectedTable 1 0) ↔ (16384 < length text)
   pub line : (number place : ℕ) → ((tableOf text ≡ rejectedTable number place) × TableLineNumber number place) ↔ TableLineFails text number place
@@ -78,21 +81,31 @@ pub record KindsTold (text : List ℕ) : Type 0 where
   pub other-problem : isTable text ≡ false → (p : Problem) → (descriptionOf text ≡ described p) ↔ ((n : Netlist) × (parseOf text ≡ accepted n) × (circuitProblem n ≡ p))
   pub unread : isTable text ≡ true → length text ≤ 16384 → parseOf text ≡ rejected 2 1
 
+-- which fault lines are bridges, by their word (document 02, note 8). Fault lines of which none has it are read as document 01 has them
+pub record BridgesTold : Type 0 where
+  pub word : (l : List ℕ) → (namesBridge l ≡ true) ↔ (fieldOf l 0 ≡ bytesOf "bridge")
+  pub as-before : (inputs top count place : ℕ) (rest : List ℕ) → ((k : ℕ) → k < count → namesBridge (before lineEnd (linesFrom k rest)) ≡ false)
+      → linesOf (nthFaultRefusal inputs top) faultLineOf count place rest [] ≡ linesOf (nthStuckRefusal top) faultOf count place rest []
+
 -- what each kind of line is tested for, by what it is written from
 pub record LinesTested : Type 0 where
   pub head : HeadForm
   pub gate : GateForm
   pub output : OutputForm
   pub fault : FaultForm
+  pub bridge : BridgeForm
+  -- "A fault line may read `bridge,I,J`": which of the two a fault line is
+  pub fault-line : FaultLineForm
   pub table-head : TableHeadForm
   pub marks : MarkForm
 
--- "within a line 2, 3, then 4, 5, 6", and 15 "after 2"
+-- "within a line 2, 3, then 4, 5, 6", 15 "after 2", and 19 "in the place of 5 and 6"
 pub record LinesNumbered (l : List ℕ) : Type 0 where
   pub head : LeastFailing (headTests l) (headRefusal l)
   pub gate : (own : ℕ) → LeastFailing (gateTests own l) (gateRefusal own l)
   pub output : (top : ℕ) → LeastFailing (outputTests top l) (outputRefusal top l)
   pub fault : (top : ℕ) → LeastFailing (faultTests top l) (faultRefusal top l)
+  pub bridge : (inputs : ℕ) → LeastFailing (bridgeTests inputs l) (bridgeRefusal inputs l)
   pub table-head : LeastFailing (tableHeadTests l) (tableHeadRefusal l)
   pub marks : (inputs : ℕ) → LeastFailing (markTests inputs l) (markRefusal inputs l)
 
@@ -124,6 +137,7 @@ pub record DemandOne : Type 0 where
   pub texts : (text : List ℕ) → TextsAnswered text
   pub tables : (text : List ℕ) → TablesAnswered text
   pub kinds : (text : List ℕ) → KindsTold text
+  pub bridge-lines : BridgesTold
   pub lines : LinesTested
   pub numbers : (l : List ℕ) → LinesNumbered l
   -- calls on a text
@@ -143,12 +157,16 @@ pub record DemandOne : Type 0 where
   pub rows : (c : List ℤ) (room : ℕ) → let a = rowsAnswer c room in RowsTests c room (answerNumber a) (answerPlace a)
   pub stuck : (c : List ℤ) (inputs values : List ℕ) (room : ℕ) → let a = stuckAnswer c inputs values room in StuckTests c inputs values room (answerNumber a) (answerPlace a)
   pub opened : (c : List ℤ) (values : List ℕ) (room : ℕ) → let a = openedAnswer c values room in OpenedTests c values room (answerNumber a) (answerPlace a)
+  pub bridged : (c : List ℤ) (i j room : ℕ) → let a = bridgedAnswer c i j room in BridgedTests c i j room (answerNumber a) (answerPlace a)
+  -- the four labels that differ only in I and J share their half, so the first whose half is not whole has neither
+  pub bridged-place : (c : List ℤ) (i j room : ℕ) → let a = bridgedAnswer c i j room in answerNumber a ≡ 11 → (bitOf i (answerPlace a) ≡ 0) × (bitOf j (answerPlace a) ≡ 0)
   -- what is written
   pub circuit-writes : (text : List ℕ) (fault room : ℕ) (new out : List ℤ) → Writes (circuitAnswer text fault room) new out
   pub spectrum-writes : (rows : List ℤ) (room : ℕ) (new out : List ℤ) → Writes (spectrumAnswer rows room) new out
   pub rows-writes : (c : List ℤ) (room : ℕ) (new out : List ℤ) → Writes (rowsAnswer c room) new out
   pub stuck-writes : (c : List ℤ) (inputs values : List ℕ) (room : ℕ) (new out : List ℤ) → Writes (stuckAnswer c inputs values room) new out
   pub opened-writes : (c : List ℤ) (values : List ℕ) (room : ℕ) (new out : List ℤ) → Writes (openedAnswer c values room) new out
+  pub bridged-writes : (c : List ℤ) (i j room : ℕ) (new out : List ℤ) → Writes (bridgedAnswer c i j room) new out
   pub plan-writes : (text before after : List ℕ) → WorkKept (planVerdict text (length before)) before after → PlanWrites text before after
   pub report-writes : (text out : List ℕ) (work : ℕ) → ReportWrites text out work
   pub report-work : (text : List ℕ) (room : ℕ) (before after : List ℕ) → WorkKept (reportVerdict text room (length before)) before after

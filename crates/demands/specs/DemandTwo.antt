@@ -19,17 +19,19 @@ use Rattle.screen.specs.Answers.{answerNumber}
 use Rattle.transform.specs.Spectrum.{sign, coefficientOf, spectrumOf}
 use Rattle.walsh.specs.Coefficients.{foundOf, foundNumber, foundValue}
 use Rattle.walsh.specs.Lists.{spectrumAnswer, inverseRows, rowsAnswer}
-use Rattle.faults.specs.Faults.{stuckOf, stuckAnswer, stuckSpectrumOf, stuckRows, keptInputs, openedAnswer, openedSpectrumOf, openedRows}
-use Rattle.statements.specs.Items.{noOutput, sound}
+use Rattle.faults.specs.Faults.{stuckOf, stuckAnswer, stuckSpectrumOf, stuckRows, keptInputs, openedAnswer, openedSpectrumOf, openedRows, replacedAll, bridgedRows}
+use Rattle.bridges.specs.Bridges.{bridgedAnswer, bridgedSpectrumOf}
+use Rattle.statements.specs.Items.{noOutput, noBridge, sound}
 use Rattle.netlist.specs.Circuits.{Netlist, faultAt}
 use Rattle.netlist.specs.Parsing.{accepted, parseOf}
-use Rattle.simulation.specs.Rows.{rowValue, rowsOf}
+use Rattle.gates.specs.Gates.{applied, shown}
+use Rattle.simulation.specs.Rows.{inputShown, rowValue, rowsOf}
 use Rattle.tables.specs.Tables.{TruthTable, tableFaultAt}
 use Rattle.tables.specs.TableParsing.{acceptedTable, tableOf}
 use Rattle.lookup.specs.FreeRows.{onesWith, freeWith}
 use Rattle.lookup.specs.TableRows.{faultRow, tableRows}
 use Rattle.circuit.specs.CircuitCall.{circuitAnswer, circuitSpectrum}
-use Rattle.lookup.specs.StuckPairs.{stuckLines, stuckValues, OfInputs}
+use Rattle.lookup.specs.StuckPairs.{stuckLines, stuckValues, pairsOf, OfInputs}
 use Rattle.agreement.specs.Opened.{openedCircuitRows}
 use Rattle.reading.specs.Readings.{agrees, wholeSum, countOf, readingNumber}
 use Rattle.reading.specs.declared.Reading.{Reading}
@@ -49,25 +51,40 @@ pub record SpectraRight : Type 0 where
   pub no-rows : (c : List ℤ) (room : ℕ) → (answerNumber (rowsAnswer c room) ≡ 0) ⊎ (answerNumber (rowsAnswer c room) ≡ 11)
       → (answerNumber (rowsAnswer c room) ≡ 11) ↔ ((rows : List ℤ) → Within 1000 rows → spectrumOf rows ≡ c → ⊥)
 
--- "On a spectrum of rows both equal the sums of the faulted rows."
+-- "On a spectrum of rows both equal the sums of the faulted rows", and under a bridge (document 02, note 8): "On a spectrum of rows this must equal the sums over
+-- bridged rows"
 pub record FaultySpectraRight : Type 0 where
   pub stuck : (rows : List ℤ) (inputs values : List ℕ) (room : ℕ) → answerNumber (stuckAnswer (spectrumOf rows) inputs values room) ≡ 0
       → stuckSpectrumOf (stuckOf inputs values) (spectrumOf rows) ≡ spectrumOf (stuckRows (stuckOf inputs values) rows)
   pub opened : (rows : List ℤ) (values : List ℕ) (room : ℕ) → answerNumber (openedAnswer (spectrumOf rows) values room) ≡ 0
       → openedSpectrumOf (spectrumOf rows) values ≡ spectrumOf (openedRows (keptInputs rows values) values rows)
   pub opened-divides : (rows : List ℤ) (values : List ℕ) (room : ℕ) → answerNumber (openedAnswer (spectrumOf rows) values room) ≡ 11 → ⊥
+  pub bridged : (rows : List ℤ) (i j room : ℕ) → answerNumber (bridgedAnswer (spectrumOf rows) i j room) ≡ 0
+      → bridgedSpectrumOf i j (spectrumOf rows) ≡ spectrumOf (bridgedRows i j rows)
+  pub bridged-halves : (rows : List ℤ) (i j room : ℕ) → answerNumber (bridgedAnswer (spectrumOf rows) i j room) ≡ 11 → ⊥
 
 -- the circuit that an accepted text states, sound (0) and under each of its faults
 pub record CircuitsRight (text : List ℕ) (n : Netlist) : Type 0 where
   pub rows : (k x : ℕ) → x < 2 ^ n .inputs → nth (rowsOf n (faultAt n k)) x ≡ rowValue n (faultAt n k) x
   pub spectrum : (k : ℕ) → k ≤ length (n .faults) → circuitSpectrum text k ≡ spectrumOf (rowsOf n (faultAt n k))
-  -- from the sound spectrum alone, where the fault names inputs only
-  pub stuck-inputs : (k : ℕ) → CircuitFault n k → OfInputs (n .inputs) (faultAt n k)
+  -- without a bridge an input gets what is applied to it
+  pub unbridged : (k x i : ℕ) → faultAt n k .bridge ≡ noBridge → inputShown (faultAt n k) x i ≡ shown (faultAt n k) (i + 1) (applied x i)
+  -- from the sound spectrum alone, where the fault is of stuck lines and names inputs only
+  pub stuck-inputs : (k : ℕ) → CircuitFault n k → faultAt n k .bridge ≡ noBridge → OfInputs (n .inputs) (faultAt n k)
       → stuckSpectrumOf (stuckOf (stuckLines (faultAt n k)) (stuckValues (faultAt n k))) (circuitSpectrum text 0) ≡ circuitSpectrum text k
-  -- from the spectrum of the circuit with the fault's lines opened
-  pub opened-lines : (k : ℕ) → CircuitFault n k → openedSpectrumOf (spectrumOf (openedCircuitRows n (faultAt n k))) (stuckValues (faultAt n k)) ≡ circuitSpectrum text k
+  -- from the spectrum of the circuit with the lines of a fault of stuck lines opened
+  pub opened-lines : (k : ℕ) → CircuitFault n k → faultAt n k .bridge ≡ noBridge
+      → openedSpectrumOf (spectrumOf (openedCircuitRows n (faultAt n k))) (stuckValues (faultAt n k)) ≡ circuitSpectrum text k
+  -- "Both inputs then show the AND of what is applied": the sound rows with both inputs replaced, and that from the sound spectrum alone
+  pub bridged-rows : (k : ℕ) → CircuitFault n k → (faultAt n k .bridge ≡ noBridge → ⊥) → let b = faultAt n k .bridge in
+      rowsOf n (faultAt n k) ≡ bridgedRows (b .first) (b .second) (rowsOf n sound)
+  pub bridges : (k : ℕ) → CircuitFault n k → (faultAt n k .bridge ≡ noBridge → ⊥) → let b = faultAt n k .bridge in
+      bridgedSpectrumOf (b .first) (b .second) (circuitSpectrum text 0) ≡ circuitSpectrum text k
+  pub bridges-answer : (k room : ℕ) → CircuitFault n k → (faultAt n k .bridge ≡ noBridge → ⊥) → let b = faultAt n k .bridge in
+      bridgedAnswer (circuitSpectrum text 0) (b .first) (b .second) room ≡ circuitAnswer text k room
 
--- the table that an accepted text states, sound (0) and under each of its faults: "Under a fault a row takes the mark of the row with its stuck inputs replaced."
+-- the table that an accepted text states, sound (0) and under each of its faults: "Under a fault a row takes the mark of the row with its stuck inputs replaced",
+-- and its bridged ones
 pub record TablesRight (text : List ℕ) (t : TruthTable) : Type 0 where
   pub rows : (k x : ℕ) → x < 2 ^ t .inputs → nth (tableRows t (tableFaultAt t k)) x ≡ pos (getD (t .marks) (faultRow (tableFaultAt t k) x) 0)
   pub sound-rows : (x : ℕ) → x < 2 ^ t .inputs → nth (tableRows t sound) x ≡ pos (getD (t .marks) x 0)
@@ -75,11 +92,20 @@ pub record TablesRight (text : List ℕ) (t : TruthTable) : Type 0 where
   -- eq. 11 and 12, doubled: twice the ones of even parity plus the free rows of even parity, less the same of odd parity
   pub free-rows : (k label : ℕ) → let f = tableFaultAt t k in
       coefficientOf (tableRows t f) label ≡ pos (2 * onesWith t f 0 label + freeWith t f 0 label) -ℤ pos (2 * onesWith t f 1 label + freeWith t f 1 label)
-  -- from the sound spectrum alone, under every fault
-  pub stuck-inputs : (k : ℕ) → TableFault t k
+  -- without a bridge the row has its stuck inputs replaced, and nothing else
+  pub unbridged : (k x : ℕ) → tableFaultAt t k .bridge ≡ noBridge → faultRow (tableFaultAt t k) x ≡ replacedAll (pairsOf (tableFaultAt t k)) x
+  -- from the sound spectrum alone, under every fault: of stuck inputs
+  pub stuck-inputs : (k : ℕ) → TableFault t k → tableFaultAt t k .bridge ≡ noBridge
       → stuckSpectrumOf (stuckOf (stuckLines (tableFaultAt t k)) (stuckValues (tableFaultAt t k))) (circuitSpectrum text 0) ≡ circuitSpectrum text k
-  pub stuck-answer : (k room : ℕ) → TableFault t k
+  pub stuck-answer : (k room : ℕ) → TableFault t k → tableFaultAt t k .bridge ≡ noBridge
       → stuckAnswer (circuitSpectrum text 0) (stuckLines (tableFaultAt t k)) (stuckValues (tableFaultAt t k)) room ≡ circuitAnswer text k room
+  -- and of two that are bridged
+  pub bridged-rows : (k : ℕ) → TableFault t k → (tableFaultAt t k .bridge ≡ noBridge → ⊥) → let b = tableFaultAt t k .bridge in
+      tableRows t (tableFaultAt t k) ≡ bridgedRows (b .first) (b .second) (tableRows t sound)
+  pub bridges : (k : ℕ) → TableFault t k → (tableFaultAt t k .bridge ≡ noBridge → ⊥) → let b = tableFaultAt t k .bridge in
+      bridgedSpectrumOf (b .first) (b .second) (circuitSpectrum text 0) ≡ circuitSpectrum text k
+  pub bridges-answer : (k room : ℕ) → TableFault t k → (tableFaultAt t k .bridge ≡ noBridge → ⊥) → let b = tableFaultAt t k .bridge in
+      bridgedAnswer (circuitSpectrum text 0) (b .first) (b .second) room ≡ circuitAnswer text k room
 
 -- "rows that agree" with the values at the inputs of the mask, the whole sum of their values, and their count
 pub record ReadingsRight (text : List ℕ) (n : Netlist) (mask values : ℕ) : Type 0 where

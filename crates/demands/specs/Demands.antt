@@ -46,7 +46,7 @@ pub record CircuitMeant (n : Netlist) : Type 0 where
   pub shows : (labels : List ℕ) → Shows (circuitProblem n) labels ↔ ShowsOf (n .inputs) (length (n .faults)) (circuitRowsAt n) labels
   pub silent : (f : ℕ) → CircuitFault n f → Silent (circuitProblem n) f ↔ ((x : ℕ) → x < 2 ^ n .inputs → rowValue n sound x ≡ rowValue n (faultAt n f) x)
 
--- and of a table, over doubled rows: a fault is silent where every row's mark is that of the row with the stuck inputs replaced
+-- and of a table, over doubled rows: a fault is silent where every row's mark is that of the row with the stuck or bridged inputs replaced
 pub record TableMeant (t : TruthTable) : Type 0 where
   pub cap : tableProblem t .cap ≡ t .cap
   pub shows : (labels : List ℕ) → Shows (tableProblem t) labels ↔ ShowsOf (t .inputs) (length (t .faults)) (tableRowsAt t) labels

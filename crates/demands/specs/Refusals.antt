@@ -1,4 +1,4 @@
--- When each call refuses, by the paper's table (document 01, "What is returned"), in its words.
+-- When each call refuses, by the paper's table (document 01, "What is returned") and document 02's note 8, in their words.
 use Prim.Native.Nat.{ℕ, _*_, _%_, _^_, _<_, _≤_}
 use mathlib.Core.List.{List}
 use mathlib.Core.Logic.{_⊎_}
@@ -11,6 +11,8 @@ use Rattle.screen.specs.Answers.{inputsOf}
 use Rattle.transform.specs.Spectrum.{coefficientOf}
 use Rattle.faults.specs.Arguments.{StuckArguments, OpenedArguments}
 use Rattle.faults.specs.Faults.{keptInputs, openedSumAt}
+use Rattle.bridges.specs.BridgeArguments.{BridgeArguments}
+use Rattle.bridges.specs.Bridges.{pairSum}
 use Rattle.netlist.specs.Circuits.{Netlist}
 use Rattle.tables.specs.Tables.{TruthTable}
 use Rattle.devices.specs.Problems.{Problem}
@@ -41,6 +43,10 @@ NoRowAt c p = (natAbs (coefficientOf c p) % length c ≡ 0 → ⊥) ⊎ (1000 * 
 abbrev pub UndividedAt : List ℤ → List ℕ → ℕ → Type 0
 UndividedAt c values p = natAbs (openedSumAt c values p) % 2 ^ length values ≡ 0 → ⊥
 
+-- 11, for a bridge: "a list in which a half does not come out whole gets 11 at the first such label"
+abbrev pub UnhalvedAt : List ℤ → ℕ → ℕ → ℕ → Type 0
+UnhalvedAt c i j p = natAbs (pairSum i j (nth c) p) % 2 ≡ 0 → ⊥
+
 -- 9, 12, 10, 8: a list of numbers from -B to B, right arguments, and room for what is due
 abbrev pub ListTests : ℕ → Type 0 → List ℤ → ℕ → ℕ → (ℕ → ℕ → Type 0) → ℕ → ℕ → Type 0
 ListTests B Right l room due next =
@@ -65,6 +71,11 @@ abbrev pub OpenedTests : List ℤ → List ℕ → ℕ → ℕ → ℕ → Type 
 OpenedTests c values room =
     ListTests 2048000 (OpenedArguments (inputsOf (length c)) values) c room (2 ^ keptInputs c values)
     (RefusedIf 11 (FirstOf (2 ^ keptInputs c values) (UndividedAt c values)) NoRefusal)
+
+-- "12 is given unless I is below J and both are inputs of the list"
+abbrev pub BridgedTests : List ℤ → ℕ → ℕ → ℕ → ℕ → ℕ → Type 0
+BridgedTests c i j room =
+    ListTests 2048000 (BridgeArguments (inputsOf (length c)) i j) c room (length c) (RefusedIf 11 (FirstOf (length c) (UnhalvedAt c i j)) NoRefusal)
 
 -- Texts: the tests on what an accepted text states
 

@@ -15,6 +15,7 @@ use Rattle.netlist.proofs.Acceptance.{well-formed}
 use Rattle.netlist.proofs.Refusals.{text-refused}
 use Rattle.tables.specs.TableLines.{isTable}
 use Rattle.tables.specs.TableParsing.{TableParse, acceptedTable, rejectedTable, tableOf}
+use Rattle.netlist.specs.Places.{CircuitLineNumber}
 use Rattle.tables.specs.TablePlaces.{TableLineNumber}
 use Rattle.tables.proofs.TableAcceptance.{table-right}
 use Rattle.tables.proofs.TableRefusals.{table-refused}
@@ -33,7 +34,12 @@ circuit-right : (text : List ℕ) (q : Parse) → parseOf text ≡ q → Right (
 circuit-right text (accepted n) e = circuit-proper n (well-formed text n e)
 circuit-right text (rejected number place) e =
     ⊎-elim (λ one. (omega (arith, one .0), omega (arith, one .0), omega (arith, one .1)))
-    (λ line. (omega (arith, line .number-low), omega (arith, line .number-high), omega (arith, line .place-high))) (text-refused text number place e)
+    (λ line. let n = small (line .number-is) in (n .0, n .1, omega (arith, line .place-high))) (text-refused text number place e)
+  where
+    small : (number ≡ 7) ⊎ CircuitLineNumber number → (1 ≤ number) × (number < 100)
+    small (inl e) = (omega arith, omega arith)
+    small (inr (inl s)) = (omega (arith, s .0), omega (arith, s .1))
+    small (inr (inr e)) = (omega arith, omega arith)
 
 table-right-too : (text : List ℕ) (q : TableParse) → tableOf text ≡ q → Right (ofTable q)
 table-right-too text (acceptedTable t) e = table-proper t (table-right text t e)
@@ -47,7 +53,8 @@ table-right-too text (rejectedTable number place) e =
     small (inr (inr (inl e))) = (omega (arith, e), omega (arith, e))
     small (inr (inr (inr (inl e)))) = (omega (arith, e), omega (arith, e))
     small (inr (inr (inr (inr (inl e))))) = (omega (arith, e), omega (arith, e))
-    small (inr (inr (inr (inr (inr e))))) = (omega (arith, e .0), omega (arith, e .0))
+    small (inr (inr (inr (inr (inr (inl e)))))) = (omega (arith, e .0), omega (arith, e .0))
+    small (inr (inr (inr (inr (inr (inr e)))))) = (omega (arith, e), omega (arith, e))
 
 right : (text : List ℕ) → Right (descriptionOf text)
 unfolding descriptionOf

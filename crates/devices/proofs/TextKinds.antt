@@ -11,10 +11,11 @@ use Prim.Native.Nat.{ℕ, _≤_}
 use lib.Dec.{eqb, lit≤}
 use lib.ListN.{length}
 use borrow.Author.Tests.{le-ltb}
-use Rattle.text.specs.Text.{textBytes, before, after, hasByte, lineEnd, fieldOf, fieldCount, sameBytes}
+use Rattle.text.specs.Text.{textBytes, before, after, hasByte, lineEnd, fieldOf, sameBytes}
 use Rattle.text.proofs.Words.{same-equal, same-self}
 use Rattle.integer.proofs.Bools.{both, clash}
-use Rattle.fields.specs.Fields.{isLine, unless}
+use Rattle.fields.specs.Fields.{unless}
+use Rattle.fields.proofs.JoinedLines.{word-is}
 use Rattle.fields.proofs.Chains.{unless-passed}
 use Rattle.statements.specs.Lines.{circuitWord, isHead, headRefusal, headOf}
 use Rattle.netlist.specs.Circuits.{Netlist}
@@ -36,13 +37,6 @@ circuits-as-before {A} found refuse text e = ap (onDescription found refuse) (ci
     go : (p : Parse) → onDescription found refuse (ofCircuit p) ≡ onParse (λ n. found (circuitProblem n)) refuse p
     go (accepted n) = refl
     go (rejected number place) = refl
-
--- a line's word is its first field
-word-is : (l word : List ℕ) (from fields : ℕ) → isLine l word from fields ≡ true → fieldOf l 0 ≡ word
-unfolding isLine
-word-is l word from fields e =
-    let a = both (eqb (fieldCount l) fields && sameBytes (fieldOf l 0) word) _ e in
-    same-equal (fieldOf l 0) word (both (eqb (fieldCount l) fields) (sameBytes (fieldOf l 0) word) (a .0) .1)
 
 -- the two words differ, so a table's first line is no head of a circuit
 no-head : (text : List ℕ) → isTable text ≡ true → isHead (before lineEnd text) ≡ false

@@ -17,24 +17,34 @@ use Rattle.planner.specs.PlanCall.{silentFirst, verdictOf, planVerdict, planAns
 use Rattle.tables.specs.TableLines.{isTable, isTableHead, tableHeadFits, tableHeadRefusal, tableHeadOf, isMark, doubledMark, allMarks, markRefusal, marksOf}
 use Rattle.tables.specs.TableParsing.{tableFaultsIn, tableEnd, tableBody, tableOf}
 use Rattle.lookup.specs.StuckPairs.{withPair, presentPairs, stuckLines, stuckValues, pairsOf}
-use Rattle.lookup.specs.TableRows.{faultRow, tableRow, tableRows}
+use Rattle.lookup.specs.TableRows.{bridgeRow, faultRow, tableRow, tableRows}
 use Rattle.devices.specs.Describing.{descriptionOf}
-use Rattle.devices.specs.Devices.{tableProblem}
+use Rattle.devices.specs.Devices.{circuitProblem, tableProblem}
 use Rattle.devices.specs.Problems.{problemFrom}
 use Rattle.circuit.specs.CircuitCall.{roomAnswer, faultAnswer, circuitAnswer, faultSpectrum, circuitSpectrum}
 use Rattle.report_lines.specs.ReportLines.{planLine, refusedLine, labelLine, labelCovers, coveringLabel, faultReportLine, planLines}
 use Rattle.report.specs.ReportCall.{reportOf, short, reportAnswer, reportLeft}
 use lib.Count.{ones}
 use Rattle.integer.specs.Tab.{tab}
-use Rattle.netlist.specs.Parsing.{parseOf}
+use Rattle.netlist.specs.Parsing.{gatesIn, outputsIn, faultsIn, endOf, bodyOf, parseOf}
 use Rattle.fixture.specs.ReadingCall.{readingAnswer}
-use Rattle.statements.specs.Lines.{isHead, headRefusal, isFault, pairInRange, pairFits, faultFits, linesExist, risesAt, linesRise, faultRefusal, pairAt, faultOf}
-use Rattle.faults.specs.Faults.{stuckOf, replacedAll}
+use Rattle.kinds.specs.Kinds.{isKind, kindOf}
+use Rattle.statements.specs.Lines.{isHead, headFits, headRefusal, headOf, isGate, secondFits, gateFits, readsBelow, gateRefusal, gateOf, isOutput, outputFits, outputRefusal, outputOf, isFault, pairInRange, pairFits, faultFits, linesExist, risesAt, linesRise, faultRefusal, pairAt, faultOf, isBridge, bridgeFits, inputsRise, bridgeRefusal, bridgeOf, namesBridge, faultLineRefusal, faultLineOf}
+use Rattle.gates.specs.Gates.{gateValue, stuckOr, shown, appliedUnder}
+use Rattle.simulation.specs.Rows.{inputValues, gateNext, gatesNext, lineValues, rowValue, rowsOf}
+use Rattle.screen.specs.Answers.{inputsTo, inputsOf, outside, outsideAt, firstOutside, screenOf}
+use Rattle.results.specs.Quotients.{unfit, unfitAt, firstUnfit, dividedAnswer, quotientAt, quotientsOf}
+use Rattle.walsh.specs.Lists.{spectrumAnswer, inverseRows, rowsAnswer}
+use Rattle.faults.specs.Faults.{stuckOf, replacedAll, bridgedRows}
+use Rattle.bridges.specs.Bridges.{withoutBoth, pairSum, halfAt, withNeither, bridgedBy, bridgedAt, bridgedSpectrumOf, unhalvedAt, firstUnhalved, unhalvedAnswer, bridgeRight, bridgedAnswer}
 use Rattle.examples.specs.Texts.{textOfLines}
+use Rattle.examples.specs.BridgeTexts.{bridgedListing, bridgedListingReport, silentBridge, silentBridgeReport, bridgedTable, bridgedTableReport, gateWith, tableWith}
+use Rattle.examples.specs.Functions.{isOneOf, bridgedFigure}
 use Rattle.examples.specs.TableTexts.{figureTable, smallTable, smallTableReport, constantTable, constantTableReport, commaTable, shortTable, lineAboveTable}
 use Rattle.examples.specs.Table.{Holds, Every}
 use Rattle.examples.specs.Notes.{noteTable}
 
 pub notes-hold : Every Holds noteTable
-unfolding firstFrom firstWhere sumTo keep any count allBelow termOf signedSum coefficientOf spectrumOf indexOf before after fieldOf fieldCount sameBytes digits decimalFrom wellFormed numberOf valueAt numbersFrom isLine inRange fits unless linesOf decimalTo decimalOf integerOf gather numberField numbersOf lineOf withOnes byOnes order below labelsBelow setsOf firstOf planFrom planOf covers coversFault coversAll sameAt silent silentAt firstSilent signatureOf silentFirst verdictOf planVerdict planAnswer isTable isTableHead tableHeadFits tableHeadRefusal tableHeadOf isMark doubledMark allMarks markRefusal marksOf tableFaultsIn tableEnd tableBody tableOf withPair presentPairs stuckLines stuckValues pairsOf faultRow tableRow tableRows descriptionOf tableProblem problemFrom roomAnswer faultAnswer circuitAnswer faultSpectrum circuitSpectrum planLine refusedLine labelLine labelCovers coveringLabel faultReportLine planLines reportOf short reportAnswer reportLeft ones tab parseOf readingAnswer isHead headRefusal isFault pairInRange pairFits faultFits linesExist risesAt linesRise faultRefusal pairAt faultOf stuckOf replacedAll textOfLines figureTable smallTable smallTableReport constantTable constantTableReport commaTable shortTable lineAboveTable noteTable
-notes-hold = (refl, (refl, (refl, (refl, (refl, ((refl, refl), (refl, ((refl, refl), (refl, (refl, (refl, (refl, (refl, tt)))))))))))))
+unfolding firstFrom firstWhere sumTo keep any count allBelow termOf signedSum coefficientOf spectrumOf indexOf before after fieldOf fieldCount sameBytes digits decimalFrom wellFormed numberOf valueAt numbersFrom isLine inRange fits unless linesOf decimalTo decimalOf integerOf gather numberField numbersOf lineOf withOnes byOnes order below labelsBelow setsOf firstOf planFrom planOf covers coversFault coversAll sameAt silent silentAt firstSilent signatureOf silentFirst verdictOf planVerdict planAnswer isTable isTableHead tableHeadFits tableHeadRefusal tableHeadOf isMark doubledMark allMarks markRefusal marksOf tableFaultsIn tableEnd tableBody tableOf withPair presentPairs stuckLines stuckValues pairsOf bridgeRow faultRow tableRow tableRows descriptionOf circuitProblem tableProblem problemFrom roomAnswer faultAnswer circuitAnswer faultSpectrum circuitSpectrum planLine refusedLine labelLine labelCovers coveringLabel faultReportLine planLines reportOf short reportAnswer reportLeft ones tab gatesIn outputsIn faultsIn endOf bodyOf parseOf readingAnswer isKind kindOf isHead headFits headRefusal headOf isGate secondFits gateFits readsBelow gateRefusal gateOf isOutput outputFits outputRefusal outputOf isFault pairInRange pairFits faultFits linesExist risesAt linesRise faultRefusal pairAt faultOf isBridge bridgeFits inputsRise bridgeRefusal bridgeOf namesBridge faultLineRefusal faultLineOf gateValue stuckOr shown appliedUnder inputValues gateNext gatesNext lineValues rowValue rowsOf inputsTo inputsOf outside outsideAt firstOutside screenOf spectrumAnswer unfit unfitAt firstUnfit dividedAnswer quotientAt quotientsOf inverseRows rowsAnswer bridgedRows withoutBoth pairSum halfAt withNeither bridgedBy bridgedAt bridgedSpectrumOf unhalvedAt firstUnhalved unhalvedAnswer bridgeRight bridgedAnswer isOneOf bridgedFigure bridgedListing bridgedListingReport silentBridge silentBridgeReport bridgedTable bridgedTableReport gateWith tableWith stuckOf replacedAll textOfLines figureTable smallTable smallTableReport constantTable constantTableReport commaTable shortTable lineAboveTable noteTable
+notes-hold =
+    (refl, (refl, (refl, (refl, (refl, ((refl, refl), (refl, ((refl, refl), (refl, (refl, (refl, (refl, (refl, ((refl, refl), ((refl, refl), ((refl, refl), ((refl, refl), ((refl, refl), ((refl, refl), ((refl, refl), (refl, ((refl, refl), ((refl, refl), (refl, ((refl, refl), (refl, (refl, ((refl, refl), ((refl, refl), (refl, (refl, (refl, (refl, (refl, (refl, (refl, (refl, (refl, (refl, tt)))))))))))))))))))))))))))))))))))))))

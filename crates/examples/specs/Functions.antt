@@ -1,4 +1,4 @@
--- The switching functions of document 01's examples, as lists of rows: input i is bit i - 1 of the row.
+-- The switching functions of document 01's examples and of note 8's, as lists of rows: input i is bit i - 1 of the row.
 use Prim.Native.Nat.{ℕ, _*_, _-_, _^_, max}
 use mathlib.Core.List.{List, [], _∷_}
 use mathlib.Core.Bool.{cond}
@@ -44,3 +44,7 @@ gated = rowsBy 4 (λ x. orOf (andOf (bitOf 1 x) (andOf (bitOf 2 x) (bitOf 3 x)))
 -- the same with x2x3 of the first product opened: it is line 5
 unfoldable pub gatedOpened : List ℤ
 gatedOpened = rowsBy 5 (λ x. orOf (andOf (bitOf 1 x) (bitOf 5 x)) (andOf (bitOf 4 x) (notOf (andOf (bitOf 2 x) (bitOf 3 x)))))
+
+-- source document 004, example 6.2: "Ones at rows 0, 3, 4, 5, 6, 9, 12 of 16"
+unfoldable pub bridgedFigure : List ℤ
+bridgedFigure = rowsBy 4 (isOneOf (0 ∷ 3 ∷ 4 ∷ 5 ∷ 6 ∷ 9 ∷ 12 ∷ []))

@@ -1,3 +1,4 @@
+pub mod BridgeTexts
 pub mod Functions
 pub mod Table
 pub mod Texts

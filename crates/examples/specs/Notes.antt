@@ -3,7 +3,9 @@ use mathlib.Core.List.{List, [], _∷_}
 use lib.IntN.{pos}
 use Rattle.reading.specs.declared.Reading.the-variants.{Refused}
 use Rattle.screen.specs.Answers.{minus}
-use Rattle.examples.specs.Table.{Case, circuit, plan, noPlan, report, reading}
+use Rattle.examples.specs.BridgeTexts.{bridgedListing, bridgedListingReport, silentBridge, silentBridgeReport, bridgedTable, bridgedTableReport, gateWith, tableWith}
+use Rattle.examples.specs.Functions.{bridgedFigure}
+use Rattle.examples.specs.Table.{Case, whole, bridged, bridgedWhole, bridgedNot, circuit, plan, noPlan, report, reading}
 use Rattle.examples.specs.TableTexts.{figureTable, smallTable, smallTableReport, constantTable, constantTableReport, commaTable, shortTable, lineAboveTable}
 
 unfoldable pub noteTable : List Case
@@ -26,4 +28,35 @@ noteTable =
     -- a table is never read
     ∷ reading smallTable 0 0 (Refused 2 1)
     ∷ reading commaTable 0 0 (Refused 2 1)
+    -- Note 8: example 6.2 of 004, its spectrum, and label 0 under each bridge; 2,3 and 3,4 leave the sound one
+    ∷ whole bridgedFigure (pos 7 ∷ pos 1 ∷ pos 3 ∷ pos 1 ∷ minus 1 ∷ minus 3 ∷ minus 1 ∷ pos 1 ∷ pos 3 ∷ pos 1 ∷ minus 1 ∷ pos 1 ∷ minus 1 ∷ pos 1 ∷ minus 1 ∷ pos 5 ∷ [])
+    ∷ bridged bridgedFigure 1 2 (pos 10)
+    ∷ bridged bridgedFigure 1 3 (pos 4)
+    ∷ bridged bridgedFigure 1 4 (pos 10)
+    ∷ bridged bridgedFigure 2 4 (pos 9)
+    ∷ bridged bridgedFigure 2 3 (pos 7)
+    ∷ bridged bridgedFigure 3 4 (pos 7)
+    -- the call on the listing's coefficients, and on a list that has an odd half
+    ∷ bridgedWhole (pos 4 ∷ minus 2 ∷ pos 0 ∷ pos 2 ∷ minus 2 ∷ pos 0 ∷ minus 2 ∷ pos 0 ∷ []) 1 3 (pos 2 ∷ minus 2 ∷ pos 0 ∷ pos 0 ∷ minus 2 ∷ pos 2 ∷ pos 0 ∷ pos 0 ∷ [])
+    ∷ bridgedNot (pos 0 ∷ pos 0 ∷ pos 0 ∷ pos 0 ∷ pos 0 ∷ pos 1 ∷ pos 0 ∷ pos 0 ∷ []) 1 2 11 4
+    -- a list of 2 has no two inputs
+    ∷ bridgedNot (pos 0 ∷ pos 0 ∷ []) 1 2 12 0
+    -- the listing with a stuck line and a bridge; a bridge that changes nothing; the rows of example 6.2 as a table
+    ∷ plan bridgedListing (3 ∷ [])
+    ∷ report bridgedListing bridgedListingReport
+    ∷ circuit bridgedListing 2 (pos 2 ∷ minus 2 ∷ pos 0 ∷ pos 0 ∷ minus 2 ∷ pos 2 ∷ pos 0 ∷ pos 0 ∷ [])
+    ∷ noPlan silentBridge 13 1
+    ∷ report silentBridge silentBridgeReport
+    ∷ report bridgedTable bridgedTableReport
+    -- 2, 3 and 19 of a bridge's line
+    ∷ noPlan (gateWith "bridge,1") 2 4
+    ∷ noPlan (gateWith "bridge,1,2,0") 2 4
+    ∷ noPlan (gateWith "bridge,01,2") 2 4
+    ∷ noPlan (gateWith "bridges,1,2") 2 4
+    ∷ noPlan (gateWith "bridge,57,1") 3 4
+    ∷ noPlan (gateWith "bridge,2,2") 19 4
+    ∷ noPlan (gateWith "bridge,2,1") 19 4
+    ∷ noPlan (gateWith "bridge,2,3") 19 4
+    ∷ noPlan (gateWith "bridge,2,5") 19 4
+    ∷ noPlan (tableWith "bridge,1,3") 19 3
     ∷ []

@@ -16,12 +16,13 @@ use Rattle.reading.specs.declared.Reading.the-variants.{Syndrome, Weighted, Con
 use Rattle.report_lines.specs.ReportLines.{reportBytes}
 use Rattle.report.specs.ReportCall.{reportAnswer, reportLeft}
 use Rattle.report.specs.declared.Reported.{Reported}
-use Rattle.screen.specs.Answers.{minus}
+use Rattle.screen.specs.Answers.{minus, answerNumber, answerPlace}
 use Rattle.results.specs.Results.{leaves}
 use Rattle.walsh.specs.Coefficients.{foundOf}
 use Rattle.walsh.specs.Lists.{spectrumAnswer, rowsAnswer, inverseRows}
 use Rattle.transform.specs.Spectrum.{coefficientOf, spectrumOf}
-use Rattle.faults.specs.Faults.{stuckOf, stuckAnswer, stuckSpectrumOf, stuckRows, keptInputs, openedAnswer, openedSpectrumOf, openedRows}
+use Rattle.faults.specs.Faults.{stuckOf, stuckAnswer, stuckSpectrumOf, stuckRows, keptInputs, openedAnswer, openedSpectrumOf, openedRows, bridgedRows}
+use Rattle.bridges.specs.Bridges.{bridgedAnswer, bridgedSpectrumOf}
 use Rattle.walsh.specs.declared.Found.the-variants.{Coefficient}
 use Rattle.examples.specs.Functions.{figure, productOrInput, selected, gated, gatedOpened}
 use Rattle.examples.specs.Texts.{productOrInputText, gatedText, listing, listingReport, silentText, silentReport, pairText, andOrText, xorNotText, halfAndOneText}
@@ -35,6 +36,12 @@ pub data Case : Type 0 where
   stuck : List ℤ → List ℕ → List ℕ → ℤ → Case
   -- rows, the values of the opened last lines, and the sum of the rows with the lines set
   opened : List ℤ → List ℕ → ℤ → Case
+  -- rows, two inputs that are bridged, and the sum of the bridged rows
+  bridged : List ℤ → ℕ → ℕ → ℤ → Case
+  -- coefficients, two inputs that are bridged, and what the call leaves
+  bridgedWhole : List ℤ → ℕ → ℕ → List ℤ → Case
+  -- coefficients, two inputs, and the number and place by which the call refuses to bridge them
+  bridgedNot : List ℤ → ℕ → ℕ → ℕ → ℕ → Case
   -- a circuit's text, the number of a fault and the whole spectrum under it
   circuit : List ℕ → ℕ → List ℤ → Case
   -- a circuit's text, the number of its rows, that of a fault and the sum of the rows under it
@@ -67,6 +74,9 @@ stuckLeft c inputs values = leaves (stuckAnswer c inputs values (length c)) (stu
 abbrev pub openedLeft : List ℤ → List ℕ → List ℤ
 openedLeft c values = leaves (openedAnswer c values (2 ^ keptInputs c values)) (openedSpectrumOf c values) (lent (2 ^ keptInputs c values))
 
+abbrev pub bridgedLeft : List ℤ → ℕ → ℕ → List ℤ
+bridgedLeft c i j = leaves (bridgedAnswer c i j (length c)) (bridgedSpectrumOf i j c) (lent (length c))
+
 abbrev pub circuitLeft : List ℕ → ℕ → ℕ → List ℤ
 circuitLeft text fault room = leaves (circuitAnswer text fault room) (circuitSpectrum text fault) (lent room)
 
@@ -93,6 +103,9 @@ Holds (whole rows coefficients) = (spectrumLeft rows ≡ coefficients) × (rowsL
 Holds (one rows label z) = foundOf rows label ≡ Coefficient z
 Holds (stuck rows inputs values z) = (nth (stuckLeft (spectrumOf rows) inputs values) 0 ≡ z) × (coefficientOf (stuckRows (stuckOf inputs values) rows) 0 ≡ z)
 Holds (opened rows values z) = (nth (openedLeft (spectrumOf rows) values) 0 ≡ z) × (coefficientOf (openedRows (keptInputs rows values) values rows) 0 ≡ z)
+Holds (bridged rows i j z) = (nth (bridgedLeft (spectrumOf rows) i j) 0 ≡ z) × (coefficientOf (bridgedRows i j rows) 0 ≡ z)
+Holds (bridgedWhole c i j new) = bridgedLeft c i j ≡ new
+Holds (bridgedNot c i j number place) = let a = bridgedAnswer c i j (length c) in (answerNumber a ≡ number) × (answerPlace a ≡ place)
 Holds (circuit text fault coefficients) = circuitLeft text fault (length coefficients) ≡ coefficients
 Holds (total text rows fault z) = nth (circuitLeft text fault rows) 0 ≡ z
 Holds (plan text labels) = planAnswer text workingNumbers ≡ planNumbers (planned labels)

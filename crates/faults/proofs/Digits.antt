@@ -3,15 +3,19 @@
 --   digit-low-half, digit-high-half, digit-above    the digit there
 --   put-below    the number stays below 2 ^ k
 --   put-shows, put-keeps    the digit has the value, and every other digit is as it was
+--   put-same, put-there    a digit put where it stands changes nothing
+--   put-zero, and-bit    a number is what it is without a digit and that digit's part; the part is what AND with 2 ^ b gives
 --   add-below    where digit b is 0, adding 2 ^ b stays below 2 ^ k
---   digit-beyond    and changes no digit above b
-use mathlib.Core.Path.{_≡_, sym, ap, ap₂, _∙_, subst}
+--   digit-beyond, digit-added    and changes no digit above b, and makes digit b 1
+--   digit-small, digit-one    a digit is 0 or 1
+use mathlib.Core.Path.{_≡_, refl, sym, ap, ap₂, _∙_, subst}
 use mathlib.Core.Logic.{⊎-elim}
 use Prim.Native.Nat.{ℕ, zero, suc, _+_, _*_, _-_, _/_, _%_, _^_, _≤_, _<_}
-use native.Mathlib.Nat.{lt-of-not-le, div-eq-of-lt, mod-eq-of-lt, add-mul-div-right, add-mul-mod-self-right, mul-assoc, mul-comm, add-assoc, pow-suc, zero-mul, one-mul, add-mul, mod-lt}
+use native.Mathlib.Nat.{lt-of-not-le, div-eq-of-lt, mod-eq-of-lt, add-mul-div-right, add-mul-mod-self-right, mul-assoc, mul-comm, add-assoc, pow-suc, zero-mul, one-mul, add-mul, mod-lt, div-add-mod}
 use native.Mathlib.Decide.{decLe}
 use native.Mathlib.Omega.{arith}
 use lib.Arith.{lt-of-le-ne}
+use lib.Bits.{bitAnd, and-high}
 use lib.Pow.{pow-pos, pow-add, pow-mono, shr-shr, high, low, field, mod-mod-pow}
 use Rattle.integer.proofs.Halves.{double, which}
 
@@ -116,18 +120,18 @@ put-below (suc k) b v x l hv h = pick (λ g y. put-below k b v y g hv) (decLe k 
         (λ u. let t = ih s (u .0) (u .1) in let w = ap (put b v) (u .2) ∙ put-above k b s v (u .0) in omega (arith, double k))
         (which k x h)
 
+one-more : (b y : ℕ) → (y + 2 ^ b) / 2 ^ b ≡ y / 2 ^ b + 1
+one-more b y = let w : y + 2 ^ b ≡ y + 1 * 2 ^ b = omega arith in ap (λ (n : ℕ). n / 2 ^ b) w ∙ add-mul-div-right y 1 (pow-pos b)
+
 -- the digits above b do not see 2 ^ b where digit b is 0
 pub digit-beyond : (b c y : ℕ) → b < c → digit b y ≡ 0 → digit c (y + 2 ^ b) ≡ digit c y
-digit-beyond b c y l e = ap (λ (n : ℕ). n % 2) (split (y + 2 ^ b) ∙ ap (λ (n : ℕ). n / 2 / 2 ^ (c - suc b)) next ∙ rest ∙ sym (split y))
+digit-beyond b c y l e = ap (λ (n : ℕ). n % 2) (split (y + 2 ^ b) ∙ ap (λ (n : ℕ). n / 2 / 2 ^ (c - suc b)) (one-more b y) ∙ rest ∙ sym (split y))
   where
     apart : (n : ℕ) → n / 2 ^ c ≡ n / 2 ^ (b + (1 + (c - suc b)))
     apart n = let w : c ≡ b + (1 + (c - suc b)) = omega arith in ap (λ (m : ℕ). n / 2 ^ m) w
 
     split : (n : ℕ) → n / 2 ^ c ≡ n / 2 ^ b / 2 / 2 ^ (c - suc b)
     split n = apart n ∙ sym (shr-shr n b (1 + (c - suc b))) ∙ sym (shr-shr (n / 2 ^ b) 1 (c - suc b))
-
-    next : (y + 2 ^ b) / 2 ^ b ≡ y / 2 ^ b + 1
-    next = let w : y + 2 ^ b ≡ y + 1 * 2 ^ b = omega arith in ap (λ (n : ℕ). n / 2 ^ b) w ∙ add-mul-div-right y 1 (pow-pos b)
 
     rest : (y / 2 ^ b + 1) / 2 / 2 ^ (c - suc b) ≡ y / 2 ^ b / 2 / 2 ^ (c - suc b)
     rest = let w : (y / 2 ^ b + 1) / 2 ≡ y / 2 ^ b / 2 = half (y / 2 ^ b) e in ap (λ (n : ℕ). n / 2 ^ (c - suc b)) w
@@ -177,3 +181,44 @@ module _ (b v x : ℕ) (hv : v < 2) where
       pick (no l) =
           let s = lt-of-not-le l in
           digit-of-high c (put b v x) s ∙ ap (λ (m : ℕ). m / 2 ^ (c - suc b) % 2) above-same ∙ sym (digit-of-high c x s)
+
+pub digit-small : (b x : ℕ) → digit b x < 2
+digit-small b x = mod-lt (x / 2 ^ b) (omega arith)
+
+pub put-same : (b x : ℕ) → put b (digit b x) x ≡ x
+put-same b x =
+    by-digit b (digit b x) x (digit-small b x)
+    ∙ ap (λ (n : ℕ). n * 2 ^ b + x % 2 ^ b) (ap (λ (n : ℕ). n * 2 + digit b x) next ∙ whole (x / 2 ^ b))
+    ∙ ap (λ (n : ℕ). n + x % 2 ^ b) (mul-comm (x / 2 ^ b) (2 ^ b)) ∙ div-add-mod x (2 ^ b)
+  where
+    next : x / 2 ^ suc b ≡ x / 2 ^ b / 2
+    next = let e : suc b ≡ b + 1 = omega arith in ap (λ (n : ℕ). x / 2 ^ n) e ∙ sym (shr-shr x b 1)
+
+    whole : (q : ℕ) → q / 2 * 2 + q % 2 ≡ q
+    whole q = omega arith
+
+pub put-there : (b v x : ℕ) → digit b x ≡ v → put b v x ≡ x
+put-there b v x e = ap (λ (n : ℕ). put b n x) (sym e) ∙ put-same b x
+
+pub digit-added : (b y : ℕ) → digit b y ≡ 0 → digit b (y + 2 ^ b) ≡ 1
+digit-added b y e = ap (λ (n : ℕ). n % 2) (one-more b y) ∙ odd (y / 2 ^ b) e
+  where
+    odd : (q : ℕ) → q % 2 ≡ 0 → (q + 1) % 2 ≡ 1
+    odd q z = omega arith
+
+pub digit-one : (b x : ℕ) → (digit b x ≡ 0 → ⊥) → digit b x ≡ 1
+digit-one b x n = one (digit b x) (digit-small b x) n
+  where
+    one : (d : ℕ) → d < 2 → (d ≡ 0 → ⊥) → d ≡ 1
+    one zero h n = absurd (n refl)
+    one (suc zero) h n = refl
+    one (suc (suc d)) h n = absurd (omega arith)
+
+pub put-zero : (b x : ℕ) → put b 0 x + digit b x * 2 ^ b ≡ x
+put-zero b x = sums ∙ put-same b x
+  where
+    sums : put b 0 x + digit b x * 2 ^ b ≡ put b (digit b x) x
+    sums = omega arith
+
+pub and-bit : (b x : ℕ) → bitAnd x (2 ^ b) ≡ digit b x * 2 ^ b
+and-bit b x = let e : 2 ^ b ≡ 2 ^ (1 + b) - 2 ^ b = omega (arith, pow-add 2 1 b) in ap (bitAnd x) e ∙ and-high x 1 b

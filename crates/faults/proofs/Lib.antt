@@ -1,5 +1,6 @@
 pub mod Arguments
 pub mod ArgumentsMean
+pub mod BridgedRows
 pub mod Digits
 pub mod Faulted
 pub mod OneStuck

@@ -1,5 +1,6 @@
 -- Stuck inputs:
 --   stuck-sum          the signed sum of values with one digit replaced, from the signed sums of the values alone
+--   once-zero, once-one    the sum at a label without the digit, and at one with it
 --   stuck-step         the formula over several stuck inputs is the one-input step of the first over the formula of the rest
 --   stuck-spectrum     on a spectrum of rows the formula equals the spectrum of the rows with the stuck inputs replaced
 --   within-stuck       the formula's numbers are at most 2 ^ k times as large as the coefficients
@@ -49,10 +50,10 @@ half-chosen k (suc (suc v)) f l hv hl = absurd (omega arith)
 abbrev pub onceSum : (ℕ → ℤ) → ℕ → ℕ → ℕ → ℤ
 onceSum s b v y = cond (eqb (digit b y) 0) (s y +ℤ signed v (s (y + 2 ^ b))) (pos 0)
 
-once-zero : (s : ℕ → ℤ) (b v y : ℕ) → digit b y ≡ 0 → onceSum s b v y ≡ s y +ℤ signed v (s (y + 2 ^ b))
+pub once-zero : (s : ℕ → ℤ) (b v y : ℕ) → digit b y ≡ 0 → onceSum s b v y ≡ s y +ℤ signed v (s (y + 2 ^ b))
 once-zero s b v y e = ap (λ (c : Bool). cond c (s y +ℤ signed v (s (y + 2 ^ b))) (pos 0)) (eq-eqb (digit b y) 0 e)
 
-once-one : (s : ℕ → ℤ) (b v y : ℕ) → (digit b y ≡ 0 → ⊥) → onceSum s b v y ≡ pos 0
+pub once-one : (s : ℕ → ℤ) (b v y : ℕ) → (digit b y ≡ 0 → ⊥) → onceSum s b v y ≡ pos 0
 once-one s b v y e = ap (λ (c : Bool). cond c (s y +ℤ signed v (s (y + 2 ^ b))) (pos 0)) (ne-eqb (digit b y) 0 e)
 
 -- the digit is the highest of those below 2 ^ (b + 1)

@@ -137,3 +137,15 @@ openedRow n values rows x = nth rows (openedRowNumber n values x)
 -- the rows of n inputs with the opened lines set to their values
 unfoldable pub openedRows : ℕ → List ℕ → List ℤ → List ℤ
 openedRows n values rows = tab (2 ^ n) (openedRow n values rows)
+
+-- "Both inputs then show the AND of what is applied." (document 02, note 8): the product of the two bits
+abbrev pub bothOf : ℕ → ℕ → ℕ → ℕ
+bothOf i j x = bitOf i x * bitOf j x
+
+-- row x with inputs i and j each replaced by what both show
+abbrev pub bridgedRow : ℕ → ℕ → ℕ → ℕ
+bridgedRow i j x = replaced (record { line = j; value = bothOf i j x }) (replaced (record { line = i; value = bothOf i j x }) x)
+
+-- the rows with the two inputs bridged
+unfoldable pub bridgedRows : ℕ → ℕ → List ℤ → List ℤ
+bridgedRows i j rows = tab (length rows) (λ x. nth rows (bridgedRow i j x))

@@ -1,7 +1,6 @@
 -- A line's tests are a chain of `unless`:
 --   unless-passed           a chain that refuses nothing: its first test passes, and the rest refuses nothing
 --   LineNumber, numbered    the numbers that a line may have, 0 or 2 to 6, along a chain
---   not-zero                such a number that is not 0
 --   chain-least             a chain whose numbers rise gives the least number of a test that fails
 --   chain-number            and 0 or 2 to 6, where they are from 2 to 6
 use mathlib.Core.Bool.{Bool, true, false, true≢false}
@@ -10,8 +9,6 @@ use mathlib.Core.Logic.{_⊎_, inl, inr, ⊎-elim}
 use mathlib.Core.Path.{_≡_, refl, sym, _∙_}
 use Prim.Native.Nat.{ℕ, _<_, _≤_}
 use native.Mathlib.Omega.{arith}
-use lib.Dec.{eqb}
-use borrow.Author.Tests.{eqb-false}
 use Rattle.fields.specs.Fields.{unless, Fails, LeastFailing}
 
 pub unless-passed : (b : Bool) (number next : ℕ) → 1 ≤ number → unless b number next ≡ 0 → (b ≡ true) × (next ≡ 0)
@@ -26,10 +23,6 @@ pub numbered : (b : Bool) (number next : ℕ) → 2 ≤ number → number ≤ 6 
 unfolding unless
 numbered true number next low high n = n
 numbered false number next low high n = inr (low, high)
-
-pub not-zero : (n : ℕ) → LineNumber n → eqb n 0 ≡ false → (2 ≤ n) × (n ≤ 6)
-not-zero n (inl z) e = absurd (eqb-false n 0 e z)
-not-zero n (inr s) e = s
 
 -- ---- chains of tests with their numbers
 

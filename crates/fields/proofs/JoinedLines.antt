@@ -3,6 +3,7 @@
 --   line-joined, line-ended              a line of a word and numbers is that word and those numbers as they are written
 --   two-words-joined, two-words-ended    the same where a second word stands before the numbers
 --   line-form                            exactly those lines have that form
+--   word-is                              a line's word is its first field
 use mathlib.Core.Path.{_≡_, refl, sym, ap, ap₂, _∙_, subst}
 use mathlib.Core.Bool.{true, _&&_}
 use mathlib.Core.List.{List, [], _∷_, _++_, append-assoc, map}
@@ -92,6 +93,13 @@ ended : (l word ns : List ℕ) → l ≡ word ++ numbersOf (map pos ns) → l ++
 unfolding lineOf
 ended l word ns e = ap (λ (m : List ℕ). m ++ (lineEnd ∷ [])) e ∙ append-assoc word (numbersOf (map pos ns)) (lineEnd ∷ [])
 
+-- of a line whose numbers stand from field `from` on
+pub word-is : (l word : List ℕ) (from fields : ℕ) → isLine l word from fields ≡ true → fieldOf l 0 ≡ word
+unfolding isLine
+word-is l word from fields e =
+    let a = both (eqb (fieldCount l) fields && sameBytes (fieldOf l 0) word) _ e in
+    same-equal (fieldOf l 0) word (both (eqb (fieldCount l) fields) (sameBytes (fieldOf l 0) word) (a .0) .1)
+
 module _ (l word : List ℕ) (k : ℕ) where
   -- what the tests of a line show that has k numbers from field `from` on
   formed : (from fields : ℕ) → fields - from ≡ k → isLine l word from fields ≡ true → (fieldCount l ≡ fields) × (fieldOf l 0 ≡ word) × (numbersFrom l from k ≡ true)
@@ -99,7 +107,7 @@ module _ (l word : List ℕ) (k : ℕ) where
   formed from fields z e =
       let a = both (eqb (fieldCount l) fields && sameBytes (fieldOf l 0) word) (numbersFrom l from (fields - from)) e in
       let b = both (eqb (fieldCount l) fields) (sameBytes (fieldOf l 0) word) (a .0) in
-      (eqb-true (fieldCount l) fields (b .0), same-equal (fieldOf l 0) word (b .1), subst (λ (c : ℕ). numbersFrom l from c ≡ true) z (a .1))
+      (eqb-true (fieldCount l) fields (b .0), word-is l word from fields e, subst (λ (c : ℕ). numbersFrom l from c ≡ true) z (a .1))
 
   module _ (e : isLine l word 1 (suc k) ≡ true) where
     pub line-joined : l ≡ word ++ numbersOf (map pos (valuesFrom l 1 k))

@@ -1,7 +1,8 @@
--- The gate rule, what a line shows under a fault, and what is applied to an input (document 01, "Rows").
-use Prim.Native.Nat.{ℕ, _/_, _%_, _^_}
+-- The gate rule, what a line shows under a fault, and what is applied to an input (document 01, "Rows"), alone and under a bridge.
+use Prim.Native.Nat.{ℕ, _+_, _-_, _/_, _%_, _^_}
 use mathlib.Core.Bool.{Bool, not, cond, _&&_, _||_, xor}
 use lib.Dec.{eqb}
+use Rattle.statements.specs.declared.Bridge.{Bridge}
 use Rattle.statements.specs.declared.Fault.{Fault}
 use Rattle.kinds.specs.declared.Kind.{Kind}
 use Rattle.kinds.specs.declared.Kind.the-variants.{And, Or, Nand, Nor, Xor, Xnor, Not}
@@ -27,3 +28,11 @@ shown f line v = stuckOr (f .first) line (stuckOr (f .second) line (stuckOr (f .
 -- "bit i−1 (bit 0 is worth 1) is the value applied to input i"
 abbrev pub applied : ℕ → ℕ → Bool
 applied x i = eqb (x / 2 ^ i % 2) 1
+
+-- the bridge joins input i, from 0
+abbrev pub joins : Bridge → ℕ → Bool
+joins b i = eqb (b .first) (i + 1) || eqb (b .second) (i + 1)
+
+-- what input i, from 0, gets on row x: "Both inputs then show the AND of what is applied." (document 02, note 8)
+unfoldable pub appliedUnder : Bridge → ℕ → ℕ → Bool
+appliedUnder b x i = cond (joins b i) (applied x (b .first - 1) && applied x (b .second - 1)) (applied x i)

@@ -4,7 +4,7 @@
 --   Columned             one column made by a rule, and everything else as it was
 --   inputRule, gateRule  the rule of an input's column, and of a gate's
 use Prim.Native.Nat.{ℕ, _+_, _*_, _≤_, _<_}
-use mathlib.Core.Bool.{Bool, false, cond}
+use mathlib.Core.Bool.{Bool, false, cond, _&&_}
 use mathlib.Core.List.{List}
 use mathlib.Core.Path.{_≡_}
 use lib.ListN.{getD}
@@ -23,8 +23,9 @@ pub record Columned (before after : List Bool) (line n : ℕ) (rule : ℕ → Bo
   pub made : (x : ℕ) → x < n → shownAt after line x ≡ rule x
   pub kept : (i : ℕ) → (line * 256 ≤ i → i < line * 256 + n → ⊥) → getD after i false ≡ getD before i false
 
-abbrev pub inputRule : Seen → ℕ → ℕ → Bool
-inputRule s input x = seenAs s (applied x input)
+-- of an input that gets the AND of what is applied to p and to q, from 0
+abbrev pub inputRule : Seen → ℕ → ℕ → ℕ → Bool
+inputRule s p q x = seenAs s (applied x p && applied x q)
 
 abbrev pub gateRule : List Bool → Seen → Kind → ℕ → ℕ → ℕ → Bool
 gateRule values s kind a b x = seenAs s (gateValue kind (shownAt values a x) (shownAt values b x))

@@ -63,15 +63,17 @@ fn seen_as(s: Seen, v: bool) -> bool
     if v { s.one } else { s.zero }
 }
 
-// The column of an input, from 0, on the first n rows.
-pub fn input_column(values: &mut [bool], input: usize, s: Seen, n: usize)
-    requires { ⌜ (length (now values) ≡ 14848) × (input < 8) × (n ≤ 256) ⌝ }
-    ensures { λ _. ⌜ Columned (now (values .entry)) (now (values .exit)) (input + 1) n (inputRule s input) ⌝ }
+// The column of an input, from 0, on the first n rows, where it gets the AND of what is applied to p and to q: itself twice, or the two inputs of a bridge.
+pub fn input_column(values: &mut [bool], input: usize, p: usize, q: usize, s: Seen, n: usize)
+    requires { ⌜ (length (now values) ≡ 14848) × (input < 8) × (p ≤ 8) × (q ≤ 8) × (n ≤ 256) ⌝ }
+    ensures { λ _. ⌜ Columned (now (values .entry)) (now (values .exit)) (input + 1) n (inputRule s p q) ⌝ }
 {
     let at = (input + 1) * 256;
     let mut x: usize = 0;
     while x < n {
-        values[at + x] = seen_as(s, (x >> input) % 2 == 1);
+        // in 16 bits, which hold every row, the compiler works more of them at a time
+        let row = x as u16;
+        values[at + x] = seen_as(s, ((row >> p) & (row >> q)) % 2 == 1);
         x += 1;
     }
 }

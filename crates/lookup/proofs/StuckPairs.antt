@@ -5,23 +5,24 @@
 --   values-binary, values-bits, lines-rise     the values are 0 or 1, and the lines rise
 --   pairs-right                                so the stuck-input call finds them right, for lines from 1 to top
 --   pairs-rise                                 and so do the formulas over stuck inputs
---   right-of-inputs, sound-of-inputs           a fault that is right for n inputs names inputs only, and so does the one that names no line
+--   fault-of-inputs, sound-of-inputs           a fault of stuck lines or a bridge that is right for n inputs names inputs only, and so does the one that names no line
 use mathlib.Core.Path.{_≡_, refl, sym, ap, _∙_}
 use mathlib.Core.Bool.{Bool, true, false, cond}
 use mathlib.Core.List.{List, [], _∷_, map}
-use mathlib.Core.Logic.{inl, inr}
+use mathlib.Core.Logic.{_⊎_, inl, inr}
 use Prim.Native.Nat.{ℕ, suc, _≤_, _<_, zero-le}
 use native.Mathlib.Omega.{arith}
 use lib.Dec.{eqb}
 use lib.ListN.{length, length-map}
 use borrow.Author.Tests.{eq-eqb, ne-eqb}
-use Rattle.sections.specs.FaultLines.{Above, FaultRight}
+use Rattle.sections.specs.FaultLines.{Above, StuckFault, BridgeFault}
 use Rattle.sections.proofs.FaultsRight.{free-line}
 use Rattle.faults.specs.Faults.{risingInputs, binary, stuckRight}
 use Rattle.faults.proofs.Arguments.{rising-cons, rising-rises, few-is, stuck-binary, binary-bits}
 use Rattle.faults.proofs.Opening.{Bits}
 use Rattle.faults.proofs.Sticking.{Rises}
 use Rattle.statements.specs.Items.{sound}
+use Rattle.statements.specs.declared.Bridge.{Bridge}
 use Rattle.statements.specs.declared.Fault.{Fault}
 use Rattle.statements.specs.declared.Pair.{Pair}
 use Rattle.lookup.specs.StuckPairs.{withPair, presentPairs, pairLine, bitFor, pairValue, stuckLines, stuckValues, pairsOf, OfInputs}
@@ -99,7 +100,7 @@ with-rises last top s rest (inr some) stop e =
     ap (λ (l : List Pair). risingInputs last top (map pairLine l)) (with-some s rest (omega arith))
     ∙ rising-cons last top (s .line) (map pairLine rest) low (some .1) e
 
-pub lines-rise : (top : ℕ) (f : Fault) → FaultRight top f → risingInputs 0 top (stuckLines f) ≡ true
+pub lines-rise : (top : ℕ) (f : Fault) → StuckFault top f → risingInputs 0 top (stuckLines f) ≡ true
 unfolding stuckLines presentPairs risingInputs
 lines-rise top f r =
     let third = with-rises (f .second .line) top (f .third) [] (r .third) (λ e. refl) refl in
@@ -108,7 +109,7 @@ lines-rise top f r =
     let low = r .first-low in
     with-rises 0 top (f .first) (withPair (f .second) (withPair (f .third) [])) (inr (low, r .first-high)) (λ e. absurd (omega arith)) second
 
-pub pairs-right : (top : ℕ) (f : Fault) → FaultRight top f → stuckRight top (stuckLines f) (stuckValues f) ≡ true
+pub pairs-right : (top : ℕ) (f : Fault) → StuckFault top f → stuckRight top (stuckLines f) (stuckValues f) ≡ true
 pairs-right top f r =
     let even = values-even f in
     let some = pairs-some f (r .first-low) in
@@ -118,18 +119,39 @@ pairs-right top f r =
 -- Faults of inputs.
 
 pub sound-of-inputs : (n : ℕ) → OfInputs n sound
-sound-of-inputs n = record { first = zero-le; second = zero-le; third = zero-le }
+sound-of-inputs n = record { first = zero-le; second = zero-le; third = zero-le; bridge-rises = zero-le; bridge-high = zero-le }
 
-pub right-of-inputs : (n : ℕ) (f : Fault) → FaultRight n f → OfInputs n f
+pub right-of-inputs : (n : ℕ) (f : Fault) → StuckFault n f → OfInputs n f
 right-of-inputs n f r =
     let high = r .first-high in
-    record { first = omega arith; second = most (f .first .line) (f .second) (r .second); third = most (f .second .line) (f .third) (r .third) }
+    let first-none : f .bridge .first ≡ 0 = ap (λ (b : Bridge). b .first) (r .unbridged) in
+    let second-none : f .bridge .second ≡ 0 = ap (λ (b : Bridge). b .second) (r .unbridged) in
+    record {
+      first = omega arith;
+      second = most (f .first .line) (f .second) (r .second);
+      third = most (f .second .line) (f .third) (r .third);
+      bridge-rises = omega arith;
+      bridge-high = omega arith;
+    }
   where
     most : (last : ℕ) (s : Pair) → Above last n s → s .line ≤ n
     most last s (inl none) = let z = free-line none in omega arith
     most last s (inr some) = some .1
 
+pub bridge-of-inputs : (n : ℕ) (f : Fault) → BridgeFault n f → OfInputs n f
+bridge-of-inputs n f b =
+    let first = free-line (b .no-first) in
+    let second = free-line (b .no-second) in
+    let third = free-line (b .no-third) in
+    let rise = b .rise in
+    let high = b .second-high in
+    record { first = omega arith; second = omega arith; third = omega arith; bridge-rises = omega arith; bridge-high = omega arith }
+
+pub fault-of-inputs : (n : ℕ) (f : Fault) → StuckFault n f ⊎ BridgeFault n f → OfInputs n f
+fault-of-inputs n f (inl r) = right-of-inputs n f r
+fault-of-inputs n f (inr b) = bridge-of-inputs n f b
+
 -- What the formulas over stuck inputs ask of them.
-pub pairs-rise : (top : ℕ) (f : Fault) → FaultRight top f → Rises 0 top (pairsOf f)
+pub pairs-rise : (top : ℕ) (f : Fault) → StuckFault top f → Rises 0 top (pairsOf f)
 unfolding pairsOf
 pairs-rise top f r = rising-rises 0 top (stuckLines f) (stuckValues f) (lines-rise top f r)

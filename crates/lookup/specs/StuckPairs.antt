@@ -37,8 +37,10 @@ stuckValues f = map pairValue (presentPairs f)
 unfoldable pub pairsOf : Fault → List Stuck
 pairsOf f = stuckOf (stuckLines f) (stuckValues f)
 
--- the fault names inputs only; a pair that is not there has line 0
+-- the fault names inputs only; a pair that is not there has line 0, and a bridge that is not there joins 0 and 0
 pub record OfInputs (inputs : ℕ) (f : Fault) : Type 0 where
   pub first : f .first .line ≤ inputs
   pub second : f .second .line ≤ inputs
   pub third : f .third .line ≤ inputs
+  pub bridge-rises : f .bridge .first ≤ f .bridge .second
+  pub bridge-high : f .bridge .second ≤ inputs

@@ -15,7 +15,7 @@ use Rattle.text.specs.Text.{before, after, hasByte, lineEnd, fieldOf}
 use Rattle.integer.proofs.Bools.{both}
 use Rattle.statements.specs.Items.{noGate, noOutput, sound}
 use Rattle.fields.specs.Fields.{valueAt, fits}
-use Rattle.statements.specs.Lines.{isHead, headFits, headRefusal, headOf, secondFits, isGate, gateFits, readsBelow, gateRefusal, gateOf, isOutput, outputFits, outputRefusal, outputOf, faultOf}
+use Rattle.statements.specs.Lines.{isHead, headFits, headRefusal, headOf, secondFits, isGate, gateFits, readsBelow, gateRefusal, gateOf, isOutput, outputFits, outputRefusal, outputOf, faultLineOf}
 use Rattle.kinds.specs.Kinds.{kindOf}
 use Rattle.statements.specs.declared.Fault.{Fault}
 use Rattle.statements.specs.declared.Gate.{Gate}
@@ -25,7 +25,7 @@ use Rattle.kinds.specs.declared.Kind.the-variants.{And, Or, Nand, Nor, Xor, Xno
 use Rattle.statements.specs.declared.Output.{Output}
 use Rattle.fields.proofs.Chains.{unless-passed}
 use Rattle.fields.proofs.PlainLines.{range, fits-range}
-use Rattle.sections.proofs.FaultsRight.{fault-right}
+use Rattle.sections.proofs.BridgesWritten.{fault-right}
 use Rattle.sections.proofs.LinesDue.{text-answered}
 use Rattle.sections.proofs.LinesRead.{lines-said}
 use Rattle.sections.specs.Sections.{Read, items, lineRefused, lineRefusal}
@@ -151,7 +151,7 @@ body-right h right rest n b =
     let top = h .inputs + h .gates in
     let g = lines-said (nthGateRefusal (h .inputs)) gateOf noGate (h .gates) 2 rest [] (n .gates) (b .after-gates) (λ j k. absurd (omega arith)) (b .gates-read) in
     let o = lines-said (nthOutputRefusal top) outputOf noOutput (h .outputs) (h .gates + 2) (b .after-gates) [] (n .outputs) (b .after-outputs) (λ j k. absurd (omega arith)) (b .outputs-read) in
-    let f = lines-said (nthFaultRefusal top) faultOf sound (h .faults) (h .gates + h .outputs + 2) (b .after-outputs) [] (n .faults) [] (λ j k. absurd (omega arith)) (b .faults-read) in
+    let f = lines-said (nthFaultRefusal (h .inputs) top) faultLineOf sound (h .faults) (h .gates + h .outputs + 2) (b .after-outputs) [] (n .faults) [] (λ j k. absurd (omega arith)) (b .faults-read) in
     let same : top ≡ topOf n = omega (arith, g .1, b .inputs-are) in
     record {
       inputs-low = omega (arith, right .inputs-low, b .inputs-are);
@@ -165,7 +165,7 @@ body-right h right rest n b =
       cap-high = omega (arith, right .cap-high, b .cap-is);
       gates-right = λ j k. let s = g .0 j k in rw (b .inputs-are, s .is) (gate-right (h .inputs + j + 1) (s .line) (s .passes));
       outputs-right = λ j k. let s = o .0 j k in rw (← same, s .is) (output-right top (s .line) (s .passes));
-      faults-right = λ j k. let s = f .0 j k in rw (← same, s .is) (fault-right top (s .line) (s .passes));
+      faults-right = λ j k. let s = f .0 j k in rw (← same, b .inputs-are, s .is) (fault-right (h .inputs) top (s .line) (s .passes));
     }
 
 -- the first line passes, and the lines after it are read

@@ -10,10 +10,10 @@ use native.Mathlib.Omega.{arith}
 use lib.ListN.{length}
 use Rattle.text.specs.Text.{before, after, lineEnd}
 use Rattle.statements.specs.Items.{noGate, noOutput, sound}
-use Rattle.statements.specs.Lines.{headRefusal, headOf, gateOf, outputOf, faultOf}
+use Rattle.statements.specs.Lines.{headRefusal, headOf, gateOf, outputOf, faultLineOf}
 use Rattle.statements.specs.declared.Head.{Head}
 use Rattle.sections.specs.FaultLines.{faultLine, nthFaultRefusal}
-use Rattle.sections.proofs.FaultsWritten.{fault-only}
+use Rattle.sections.proofs.BridgesWritten.{fault-only}
 use Rattle.sections.proofs.LinesOnly.{line-taken, lines-only}
 use Rattle.netlist.specs.CircuitText.{circuitBytes, gateLine, outputLine, textOf}
 use Rattle.netlist.specs.Circuits.{Netlist}
@@ -31,7 +31,7 @@ module _ (h : Head) (n : Netlist) (rest : List ℕ) (b : BodyRead h rest n) wher
       let top = h .inputs + h .gates in
       let g = lines-only (nthGateRefusal (h .inputs)) gateOf gateLine noGate (λ j. gate-only (h .inputs + j + 1)) (h .gates) 2 rest (n .gates) (b .after-gates) (b .gates-read) in
       let o = lines-only (nthOutputRefusal top) outputOf outputLine noOutput (λ j. output-only top) (h .outputs) (h .gates + 2) (b .after-gates) (n .outputs) (b .after-outputs) (b .outputs-read) in
-      let f = lines-only (nthFaultRefusal top) faultOf faultLine sound (λ j. fault-only top) (h .faults) (h .gates + h .outputs + 2) (b .after-outputs) (n .faults) [] (b .faults-read) in (
+      let f = lines-only (nthFaultRefusal (h .inputs) top) faultLineOf faultLine sound (λ j. fault-only (h .inputs) top) (h .faults) (h .gates + h .outputs + 2) (b .after-outputs) (n .faults) [] (b .faults-read) in (
         rw (g .0, o .0, f .0, b .inputs-are, b .cap-is),
         g .1 ∙ ap (λ (l : List ℕ). gatesText n ++ l) (o .1 ∙ ap (λ (l : List ℕ). outputsText n ++ l) (f .1 ∙ append-nil (faultsText n))),
       )

@@ -11,7 +11,7 @@ use lib.ListN.{length, take, drop, length-drop}
 use borrow.Author.Tests.{lt-ltb, le-ltb, eq-eqb, ne-eqb}
 use Rattle.text.specs.Text.{textBytes, indexOf, before, lineEnd}
 use Rattle.text.proofs.Parts.{cut-before, cut-after, cut-has, cut-none}
-use Rattle.statements.specs.Lines.{headRefusal, headOf, gateOf, outputOf, faultOf}
+use Rattle.statements.specs.Lines.{headRefusal, headOf, gateOf, outputOf, faultLineOf}
 use Rattle.statements.specs.declared.Head.{Head}
 use Rattle.sections.specs.FaultLines.{nthFaultRefusal}
 use Rattle.sections.proofs.LineLoops.{Stage, stage-refused, stage-read}
@@ -33,7 +33,7 @@ module _ (h : Head) (text : List ℕ) where
   Outputs from = Stage (nthOutputRefusal (h .inputs + h .gates)) outputOf text from (h .gates + 2) (h .outputs)
 
   abbrev pub Faults : ℕ → Type 0
-  Faults from = Stage (nthFaultRefusal (h .inputs + h .gates)) faultOf text from (h .gates + h .outputs + 2) (h .faults)
+  Faults from = Stage (nthFaultRefusal (h .inputs) (h .inputs + h .gates)) faultLineOf text from (h .gates + h .outputs + 2) (h .faults)
 
 module _ (h : Head) {text : List ℕ} {from : ℕ} (g : Gates h text from) where
   pub gates-stop : (g .number ≡ 0 → ⊥) → bodyOf h (drop from text) ≡ rejected (g .number) (g .place)

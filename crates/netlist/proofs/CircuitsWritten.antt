@@ -11,11 +11,12 @@ use lib.ListN.{length, getD, length-append}
 use borrow.Author.Tests.{le-ltb}
 use Rattle.text.specs.Text.{textBytes}
 use Rattle.statements.specs.Items.{noGate, noOutput, sound}
-use Rattle.statements.specs.Lines.{headRefusal, headOf, gateOf, outputOf, faultOf}
+use Rattle.statements.specs.Lines.{headRefusal, headOf, gateOf, outputOf, faultLineOf}
 use Rattle.statements.specs.declared.Head.{Head}
 use Rattle.sections.specs.FaultLines.{faultLine, nthFaultRefusal}
 use Rattle.sections.specs.Sections.{eachLine}
-use Rattle.sections.proofs.FaultsWritten.{fault-told}
+use Rattle.sections.proofs.BridgesWritten.{fault-told}
+use Rattle.sections.proofs.FaultsWritten.{stuck-told}
 use Rattle.sections.proofs.LinesWritten.{told-has, told-before, told-after, lines-read, lines-short, Told}
 use Rattle.fields.specs.Fields.{unless}
 use Rattle.netlist.specs.CircuitText.{circuitBytes, headLine, gateLine, outputLine, textOf}
@@ -49,8 +50,8 @@ module _ (n : Netlist) (w : WellFormed n) where
   outputs-told : (j : ℕ) → j < length (n .outputs) → Told 13 (nthOutputRefusal (topOf n) j) outputOf (outputLine (getD (n .outputs) j noOutput)) (getD (n .outputs) j noOutput)
   outputs-told j h = output-told (topOf n) (getD (n .outputs) j noOutput) top-high (w .outputs-right j h)
 
-  faults-told : (j : ℕ) → j < length (n .faults) → Told 21 (nthFaultRefusal (topOf n) j) faultOf (faultLine (getD (n .faults) j sound)) (getD (n .faults) j sound)
-  faults-told j h = fault-told (topOf n) (getD (n .faults) j sound) top-high (w .faults-right j h)
+  faults-told : (j : ℕ) → j < length (n .faults) → Told 21 (nthFaultRefusal (n .inputs) (topOf n) j) faultLineOf (faultLine (getD (n .faults) j sound)) (getD (n .faults) j sound)
+  faults-told j h = let f = getD (n .faults) j sound in fault-told 21 (n .inputs) (topOf n) f (omega arith) (omega (arith, w .inputs-high)) (stuck-told (topOf n) f top-high) (w .faults-right j h)
 
   body-read : bodyOf (headWritten n) (gatesText n ++ (outputsText n ++ faultsText n)) ≡ accepted n
   unfolding bodyOf gatesIn outputsIn faultsIn endOf
@@ -59,7 +60,7 @@ module _ (n : Netlist) (w : WellFormed n) where
       ∙ rw (
         lines-read (nthGateRefusal (n .inputs)) gateOf gateLine noGate (n .gates) gates-told 2 (outputsText n ++ (faultsText n ++ [])),
         lines-read (nthOutputRefusal (topOf n)) outputOf outputLine noOutput (n .outputs) outputs-told (length (n .gates) + 2) (faultsText n ++ []),
-        lines-read (nthFaultRefusal (topOf n)) faultOf faultLine sound (n .faults) faults-told (length (n .gates) + length (n .outputs) + 2) [],
+        lines-read (nthFaultRefusal (n .inputs) (topOf n)) faultLineOf faultLine sound (n .faults) faults-told (length (n .gates) + length (n .outputs) + 2) [],
       )
 
   pub text-short : length (textOf n) ≤ circuitBytes
@@ -75,7 +76,7 @@ module _ (n : Netlist) (w : WellFormed n) where
         h .short,
         lines-short (nthGateRefusal (n .inputs)) gateOf gateLine noGate (n .gates) gates-told,
         lines-short (nthOutputRefusal (topOf n)) outputOf outputLine noOutput (n .outputs) outputs-told,
-        lines-short (nthFaultRefusal (topOf n)) faultOf faultLine sound (n .faults) faults-told,
+        lines-short (nthFaultRefusal (n .inputs) (topOf n)) faultLineOf faultLine sound (n .faults) faults-told,
         w .gates-high,
         w .outputs-high,
         w .faults-high,

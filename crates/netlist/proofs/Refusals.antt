@@ -1,7 +1,7 @@
 -- How a text is answered, by its lines:
---   one-exactly, line-exactly, seven-exactly    refused by 1, by 2 to 6 and by 7, each exactly where it holds, at that place
+--   one-exactly, line-exactly, seven-exactly    refused by 1, by 2 to 6 or 19, and by 7, each exactly where it holds, at that place
 --   none-exactly                                accepted exactly where none of them applies
---   text-refused                                by 1 at place 0, or by 2 to 7 at a line from 1 to 86; number-some: never by 0
+--   text-refused                                by 1 at place 0, or by 2 to 7 or 19 at a line from 1 to 86; number-some: never by 0
 use mathlib.Core.Path.{_≡_, refl, sym, ap, ap₂, _∙_, subst}
 use mathlib.Core.Bool.{Bool, true, false, cond}
 use mathlib.Core.List.{List, [], _∷_}
@@ -14,42 +14,79 @@ use lib.Dec.{eqb, lit≤, leb}
 use lib.ListN.{length}
 use borrow.Author.Tests.{lt-ltb, ne-eqb, le-leb, lt-leb}
 use Rattle.text.specs.Text.{textBytes, before, after, hasByte, lineEnd}
-use Rattle.fields.specs.Fields.{unless}
-use Rattle.statements.specs.Lines.{headRefusal, gateRefusal, gateOf, outputRefusal, outputOf, faultOf, faultRefusal}
+use Rattle.fields.specs.Fields.{unless, Fails}
+use Rattle.statements.specs.Lines.{headRefusal, gateRefusal, gateOf, outputRefusal, outputOf, faultLineOf, bridgeTests, bridgeRefusal, faultRefusal, namesBridge, faultLineRefusal}
 use Rattle.statements.specs.declared.Fault.{Fault}
 use Rattle.statements.specs.declared.Gate.{Gate}
 use Rattle.statements.specs.declared.Head.{Head}
 use Rattle.statements.specs.declared.Output.{Output}
 use Rattle.sections.specs.Sections.{lineRefusal, linesFrom, linesOf}
 use Rattle.sections.specs.FaultLines.{nthFaultRefusal}
-use Rattle.fields.proofs.Chains.{LineNumber, not-zero}
-use Rattle.statements.proofs.LineNumbers.{head-number, gate-number, output-number, fault-number}
+use Rattle.fields.proofs.Chains.{LineNumber}
+use Rattle.statements.proofs.LineNumbers.{head-number, gate-number, output-number, fault-number, bridge-least}
 use Rattle.sections.proofs.LinesDue.{dueAt, DuePassing, FirstRefused, due-own, refused-next, due-read, refused-pass, refused-once, text-answered}
 use Rattle.netlist.specs.Circuits.{Netlist}
 use Rattle.netlist.specs.Parsing.{gatesIn, outputsIn, faultsIn, Parse, accepted, rejected, onRead, endOf, bodyOf, parseOf, nthGateRefusal, nthOutputRefusal}
-use Rattle.netlist.specs.Places.{textHead, linesDue, dueRefusal, refusalAt, LineFails, DuePass, afterDue, BytesFollow, NoneApplies}
+use Rattle.netlist.specs.Places.{textHead, linesDue, dueRefusal, refusalAt, CircuitLineNumber, LineFails, DuePass, afterDue, BytesFollow, NoneApplies}
 use Rattle.netlist.proofs.Acceptance.{head-fits}
 use Rattle.netlist.proofs.Assembling.{too-long}
 
+-- the numbers of a line
+
+abbrev Numbered : ℕ → Type 0
+Numbered n = (n ≡ 0) ⊎ CircuitLineNumber n
+
+plain-number : (n : ℕ) → LineNumber n → Numbered n
+plain-number n (inl z) = inl z
+plain-number n (inr s) = inr (inl s)
+
+not-passed : (n : ℕ) → Numbered n → (n ≡ 0 → ⊥) → CircuitLineNumber n
+not-passed n (inl z) some = absurd (some z)
+not-passed n (inr s) some = s
+
+-- not 0 or 1, and not 7
+line-low : (n : ℕ) → CircuitLineNumber n → 2 ≤ n
+line-low n (inl s) = s .0
+line-low n (inr e) = omega arith
+
+line-not-seven : {X : Type 0} (n : ℕ) → CircuitLineNumber n → n ≡ 7 → X
+line-not-seven n (inl s) e = absurd (omega (arith, s .1))
+line-not-seven n (inr b) e = absurd (omega arith)
+
+fault-line-number : (inputs top : ℕ) (l : List ℕ) → Numbered (faultLineRefusal inputs top l)
+unfolding faultLineRefusal
+fault-line-number inputs top l = go (namesBridge l)
+  where
+    of-bridge : (n : ℕ) → (n ≡ 0) ⊎ Fails (bridgeTests inputs l) n → Numbered n
+    of-bridge n (inl z) = inl z
+    of-bridge n (inr (inl f)) = inr (inl (omega (arith, f .0), omega (arith, f .0)))
+    of-bridge n (inr (inr (inl f))) = inr (inl (omega (arith, f .0), omega (arith, f .0)))
+    of-bridge n (inr (inr (inr (inl f)))) = inr (inr (sym (f .0)))
+    of-bridge n (inr (inr (inr (inr none)))) = absurd none
+
+    go : (b : Bool) → Numbered (cond b (bridgeRefusal inputs l) (faultRefusal top l))
+    go true = of-bridge (bridgeRefusal inputs l) (bridge-least inputs l .given)
+    go false = plain-number (faultRefusal top l) (fault-number top l)
+
 -- the line that is due after so many others
 
-due-number : (h : Head) (k : ℕ) (l : List ℕ) → LineNumber (dueRefusal h k l)
+due-number : (h : Head) (k : ℕ) (l : List ℕ) → Numbered (dueRefusal h k l)
 unfolding dueRefusal
 due-number h k l = go (eqb k 0) (leb k (h .gates)) (leb k (h .gates + h .outputs))
   where
     go : (a b c : Bool)
-        → LineNumber (cond a (headRefusal l) (cond b (gateRefusal (h .inputs + k) l) (cond c (outputRefusal (h .inputs + h .gates) l) (faultRefusal (h .inputs + h .gates) l))))
-    go true b c = head-number l
-    go false true c = gate-number (h .inputs + k) l
-    go false false true = output-number (h .inputs + h .gates) l
-    go false false false = fault-number (h .inputs + h .gates) l
+        → Numbered (cond a (headRefusal l) (cond b (gateRefusal (h .inputs + k) l) (cond c (outputRefusal (h .inputs + h .gates) l) (faultLineRefusal (h .inputs) (h .inputs + h .gates) l))))
+    go true b c = plain-number (headRefusal l) (head-number l)
+    go false true c = plain-number (gateRefusal (h .inputs + k) l) (gate-number (h .inputs + k) l)
+    go false false true = plain-number (outputRefusal (h .inputs + h .gates) l) (output-number (h .inputs + h .gates) l)
+    go false false false = fault-line-number (h .inputs) (h .inputs + h .gates) l
 
 -- the number of the text's line with k lines before it
 abbrev at : List ℕ → ℕ → ℕ
 at text = dueAt (dueRefusal (textHead text)) text
 
-number-at : (text : List ℕ) (k : ℕ) → LineNumber (at text k)
-number-at text k = due-own (dueRefusal (textHead text)) text LineNumber k (inr (lit≤ tt, lit≤ tt)) (due-number (textHead text) k)
+number-at : (text : List ℕ) (k : ℕ) → Numbered (at text k)
+number-at text k = due-own (dueRefusal (textHead text)) text Numbered k (inr (inl (lit≤ tt, lit≤ tt))) (due-number (textHead text) k)
 
 module _ (h : Head) (j : ℕ) (l : List ℕ) where
   gate-due : j < h .gates → dueRefusal h (1 + j) l ≡ nthGateRefusal (h .inputs) j l
@@ -62,7 +99,7 @@ module _ (h : Head) (j : ℕ) (l : List ℕ) where
   unfolding dueRefusal
   output-due k = rw (ne-eqb (1 + h .gates + j) 0 (λ z. omega arith), lt-leb (1 + h .gates + j) (h .gates) (omega arith), le-leb (1 + h .gates + j) (h .gates + h .outputs) (omega arith))
 
-  fault-due : dueRefusal h (1 + h .gates + h .outputs + j) l ≡ nthFaultRefusal (h .inputs + h .gates) j l
+  fault-due : dueRefusal h (1 + h .gates + h .outputs + j) l ≡ nthFaultRefusal (h .inputs) (h .inputs + h .gates) j l
   unfolding dueRefusal
   fault-due =
       rw (
@@ -90,13 +127,13 @@ module _ {text : List ℕ} {number place : ℕ} where
   line-fails : length text ≤ textBytes → Refused text number place → LineFails text number place
   unfolding refusalAt
   line-fails few f =
-      let n = not-zero number (subst LineNumber (f .refused) (number-at text (place - 1))) (ne-eqb number 0 (f .some)) in
-      record { few = few; number-low = n .0; number-high = n .1; place-low = f .place-low; place-due = f .place-due; refused = f .refused; earlier-pass = f .earlier-pass }
+      let n = subst Numbered (f .refused) (number-at text (place - 1)) in
+      record { few = few; number-is = not-passed number n (f .some); place-low = f .place-low; place-due = f .place-due; refused = f .refused; earlier-pass = f .earlier-pass }
 
   fails-line : LineFails text number place → Refused text number place
   unfolding refusalAt
   fails-line f =
-      record { place-low = f .place-low; place-due = f .place-due; refused = f .refused; some = λ z. omega (arith, f .number-low, z); earlier-pass = f .earlier-pass }
+      record { place-low = f .place-low; place-due = f .place-due; refused = f .refused; some = λ z. omega (arith, line-low number (f .number-is), z); earlier-pass = f .earlier-pass }
 
 module _ (text : List ℕ) (few : length text ≤ textBytes) where
   abbrev h : Head
@@ -125,7 +162,7 @@ module _ (text : List ℕ) (few : length text ≤ textBytes) where
       stage (nthOutputRefusal (h .inputs + h .gates)) outputOf (1 + h .gates) (h .outputs) (h .gates + 2) (omega arith) (omega arith) (λ j l. output-due h j l) r e p
       (λ outputs r. onRead (faultsIn h r) (endOf h gates outputs))
       (λ outputs r e p.
-      stage (nthFaultRefusal (h .inputs + h .gates)) faultOf (1 + h .gates + h .outputs) (h .faults) (h .gates + h .outputs + 2) (omega arith) (omega arith) (λ j l k. fault-due h j l) r e p
+      stage (nthFaultRefusal (h .inputs) (h .inputs + h .gates)) faultLineOf (1 + h .gates + h .outputs) (h .faults) (h .gates + h .outputs + 2) (omega arith) (omega arith) (λ j l k. fault-due h j l) r e p
       (endOf h gates outputs)
       (ended gates outputs)))
     where
@@ -163,19 +200,19 @@ module _ (text : List ℕ) where
         where
           go : Means text (rejected 1 0) → textBytes < length text
           go (inl s) = s .2
-          go (inr (inl f)) = absurd (omega (arith, f .number-low))
+          go (inr (inl f)) = absurd (omega (arith, line-low 1 (f .number-is)))
           go (inr (inr b)) = absurd (omega (arith, b .0))
 
-  pub line-exactly : (number place : ℕ) → ((parseOf text ≡ rejected number place) × (2 ≤ number) × (number ≤ 6)) ↔ LineFails text number place
-  line-exactly number place = (there, λ f. (back f (parseOf text) (parse-means text), f .number-low, f .number-high))
+  pub line-exactly : (number place : ℕ) → ((parseOf text ≡ rejected number place) × CircuitLineNumber number) ↔ LineFails text number place
+  line-exactly number place = (there, λ f. (back f (parseOf text) (parse-means text), f .number-is))
     where
-      there : (parseOf text ≡ rejected number place) × (2 ≤ number) × (number ≤ 6) → LineFails text number place
+      there : (parseOf text ≡ rejected number place) × CircuitLineNumber number → LineFails text number place
       there e = go (subst (Means text) (e .0) (parse-means text))
         where
           go : Means text (rejected number place) → LineFails text number place
-          go (inl s) = absurd (omega (arith, e .1, s .0))
+          go (inl s) = absurd (omega (arith, line-low number (e .1), s .0))
           go (inr (inl f)) = f
-          go (inr (inr b)) = absurd (omega (arith, e .2, b .0))
+          go (inr (inr b)) = line-not-seven number (e .1) (b .0)
 
       back : LineFails text number place → (r : Parse) → Means text r → r ≡ rejected number place
       back f (accepted n) m = fails-pass number place f (m .pass)
@@ -191,7 +228,7 @@ module _ (text : List ℕ) where
         where
           go : Means text (rejected 7 place) → BytesFollow text place
           go (inl s) = absurd (omega (arith, s .0))
-          go (inr (inl f)) = absurd (omega (arith, f .number-high))
+          go (inr (inl f)) = line-not-seven 7 (f .number-is) refl
           go (inr (inr b)) = b .1
 
       back : BytesFollow text place → (r : Parse) → Means text r → r ≡ rejected 7 place
@@ -212,8 +249,7 @@ module _ (text : List ℕ) where
 -- the least that callers need of a refusal
 
 pub record OfLine (number place : ℕ) : Type 0 where
-  pub number-low : 2 ≤ number
-  pub number-high : number ≤ 7
+  pub number-is : (number ≡ 7) ⊎ CircuitLineNumber number
   pub place-low : 1 ≤ place
   pub place-high : place ≤ 86
 
@@ -234,10 +270,11 @@ text-refused text number place e = go (subst (Means text) e (parse-means text))
 
     go : Means text (rejected number place) → ((number ≡ 1) × (place ≡ 0)) ⊎ OfLine number place
     go (inl s) = inl (s .0, s .1)
-    go (inr (inl f)) = inr record { number-low = f .number-low; number-high = omega (arith, f .number-high); place-low = f .place-low; place-high = high f (decLe place 1) }
+    go (inr (inl f)) = inr record { number-is = inr (f .number-is); place-low = f .place-low; place-high = high f (decLe place 1) }
     go (inr (inr b)) =
         let d = few-due text (b .1 .pass .each 0 (omega arith)) in
-        inr record { number-low = omega (arith, b .0); number-high = omega (arith, b .0); place-low = omega (arith, b .1 .place-is); place-high = omega (arith, b .1 .place-is, d) }
+        inr record { number-is = inl (b .0); place-low = omega (arith, b .1 .place-is); place-high = omega (arith, b .1 .place-is, d) }
 
 pub number-some : (text : List ℕ) (number place : ℕ) → parseOf text ≡ rejected number place → number ≡ 0 → ⊥
-number-some text number place e z = ⊎-elim (λ one. omega (arith, one .0, z)) (λ line. omega (arith, line .number-low, z)) (text-refused text number place e)
+number-some text number place e z =
+    ⊎-elim (λ one. omega (arith, one .0, z)) (λ line. ⊎-elim (λ seven. omega (arith, seven, z)) (λ n. omega (arith, line-low number n, z)) (line .number-is)) (text-refused text number place e)

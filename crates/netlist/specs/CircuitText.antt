@@ -3,6 +3,7 @@
 --   "Fields stand in fixed order, parted by commas, with no quoting. A line ends in one byte 0A hexadecimal, the last too." "The lines, in this order:"
 --   "`circuit,N,G,M,Q,K`: N inputs (1 to 8), G gates (0 to 48), M outputs (1 to 4), Q faults (1 to 32), cap K (1 to 4)."
 --   "G lines `gate,KIND,A,B`" "M lines `output,LINE,WEIGHT`" "Q lines `fault,LINE,VALUE`, with one to three LINE,VALUE pairs"
+-- and document 02, note 8: "A fault line may read `bridge,I,J`"
 use Prim.Native.Nat.{ℕ}
 use mathlib.Core.List.{List, [], _∷_, _++_}
 use lib.IntN.{pos}

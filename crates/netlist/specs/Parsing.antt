@@ -6,7 +6,7 @@ use mathlib.Core.List.{List, []}
 use lib.Dec.{eqb, ltb}
 use lib.ListN.{length}
 use Rattle.text.specs.Text.{textBytes, before, after, lineEnd}
-use Rattle.statements.specs.Lines.{headRefusal, headOf, gateOf, outputOf, faultOf, gateRefusal, outputRefusal}
+use Rattle.statements.specs.Lines.{headRefusal, headOf, gateOf, outputOf, faultLineOf, gateRefusal, outputRefusal}
 use Rattle.statements.specs.declared.Fault.{Fault}
 use Rattle.statements.specs.declared.Gate.{Gate}
 use Rattle.statements.specs.declared.Head.{Head}
@@ -31,7 +31,7 @@ unfoldable pub outputsIn : Head → List ℕ → Read Output
 outputsIn h rest = linesOf (nthOutputRefusal (h .inputs + h .gates)) outputOf (h .outputs) (h .gates + 2) rest []
 
 unfoldable pub faultsIn : Head → List ℕ → Read Fault
-faultsIn h rest = linesOf (nthFaultRefusal (h .inputs + h .gates)) faultOf (h .faults) (h .gates + h .outputs + 2) rest []
+faultsIn h rest = linesOf (nthFaultRefusal (h .inputs) (h .inputs + h .gates)) faultLineOf (h .faults) (h .gates + h .outputs + 2) rest []
 
 pub data Parse : Type 0 where
   accepted : Netlist → Parse

@@ -5,11 +5,12 @@
 use Prim.Native.Nat.{ℕ, _+_, _-_, _<_, _≤_}
 use mathlib.Core.Bool.{cond}
 use mathlib.Core.List.{List, []}
+use mathlib.Core.Logic.{_⊎_}
 use mathlib.Core.Path.{_≡_}
 use lib.Dec.{eqb, leb}
 use lib.ListN.{length}
 use Rattle.text.specs.Text.{textBytes, before, lineEnd}
-use Rattle.statements.specs.Lines.{headRefusal, headOf, gateRefusal, outputRefusal, faultRefusal}
+use Rattle.statements.specs.Lines.{headRefusal, headOf, gateRefusal, outputRefusal, faultLineRefusal}
 use Rattle.statements.specs.declared.Head.{Head}
 use Rattle.sections.specs.Sections.{lineRefusal, linesFrom}
 
@@ -27,17 +28,20 @@ dueRefusal h k l =
     cond (eqb k 0) (headRefusal l)
     (cond (leb k (h .gates)) (gateRefusal (h .inputs + k) l)
     (cond (leb k (h .gates + h .outputs)) (outputRefusal (h .inputs + h .gates) l)
-    (faultRefusal (h .inputs + h .gates) l)))
+    (faultLineRefusal (h .inputs) (h .inputs + h .gates) l)))
 
 -- the number of the text's line with k lines before it, 0 where it passes
 unfoldable pub refusalAt : List ℕ → ℕ → ℕ
 refusalAt text k = lineRefusal (dueRefusal (textHead text) k) (linesFrom k text)
 
+-- "2, 3, then 4, 5, 6" of a circuit's lines, and 19 of a bridge (document 02, note 8)
+abbrev pub CircuitLineNumber : ℕ → Type 0
+CircuitLineNumber number = ((2 ≤ number) × (number ≤ 6)) ⊎ (number ≡ 19)
+
 -- by a line's number at its place: it is one of those due, and every line before it passes
 pub record LineFails (text : List ℕ) (number place : ℕ) : Type 0 where
   pub few : length text ≤ textBytes
-  pub number-low : 2 ≤ number
-  pub number-high : number ≤ 6
+  pub number-is : CircuitLineNumber number
   pub place-low : 1 ≤ place
   pub place-due : place ≤ linesDue (textHead text)
   pub refused : refusalAt text (place - 1) ≡ number
@@ -58,7 +62,7 @@ pub record BytesFollow (text : List ℕ) (place : ℕ) : Type 0 where
   pub bytes : 0 < length (afterDue text)
   pub place-is : place ≡ linesDue (textHead text) + 1
 
--- none of 1 to 7 applies
+-- none of 1 to 7 and 19 applies
 pub record NoneApplies (text : List ℕ) : Type 0 where
   pub pass : DuePass text
   pub all : afterDue text ≡ []

@@ -1,5 +1,5 @@
 -- What accepted circuits satisfy, and no others (proofs/CircuitsWritten `accepted-exactly`): document 01's ranges, "Each of A and B is below the gate's own
--- line", and outputs and faults that name lines of the circuit, a fault's lines rising.
+-- line", outputs and faults that name lines of the circuit, a fault's lines rising, and bridges of two inputs that rise (document 02, note 8).
 use Prim.Native.Nat.{ℕ, _+_, _<_, _≤_}
 use mathlib.Core.Path.{_≡_}
 use lib.IntN.{pos, natAbs}
@@ -50,4 +50,4 @@ pub record WellFormed (n : Netlist) : Type 0 where
   pub cap-high : n .cap ≤ 4
   pub gates-right : (j : ℕ) → j < length (n .gates) → GateRight (n .inputs + j + 1) (getD (n .gates) j noGate)
   pub outputs-right : (k : ℕ) → k < length (n .outputs) → OutputRight (topOf n) (getD (n .outputs) k noOutput)
-  pub faults-right : (k : ℕ) → k < length (n .faults) → FaultRight (topOf n) (getD (n .faults) k sound)
+  pub faults-right : (k : ℕ) → k < length (n .faults) → FaultRight (n .inputs) (topOf n) (getD (n .faults) k sound)

@@ -1,7 +1,8 @@
-// The circuit as data, and the parser of the circuit text with refusals 1 to 7. What a circuit computes is the business of other crates.
+// The circuit as data, and the parser of the circuit text with refusals 1 to 7 and 19. What a circuit computes is the business of other crates.
 mod parsing;
 
 pub use parsing::parse;
+use statements::Bridge;
 use statements::Fault;
 use statements::Gate;
 use statements::Head;
@@ -40,6 +41,10 @@ pub fn fault_at(c: Circuit, number: usize) -> Fault
             first: free,
             second: free,
             third: free,
+            bridge: Bridge {
+                first: 0,
+                second: 0,
+            },
         };
     }
     c.faults[number - 1]

@@ -2,6 +2,7 @@
 use crate::Circuit;
 use crate::Parsed;
 use kinds::Kind;
+use statements::Bridge;
 use statements::Fault;
 use statements::Gate;
 use statements::Head;
@@ -129,6 +130,10 @@ fn refused(number: u32, place: usize) -> Parsed
         first: free,
         second: free,
         third: free,
+        bridge: Bridge {
+            first: 0,
+            second: 0,
+        },
     };
     let output = Output { line: 0, weight: 0 };
     let gate = Gate {
@@ -168,7 +173,14 @@ fn body(text: &[u8], from: usize, head: Head) -> Parsed
     if o.number != 0 {
         return refused(o.number, o.place);
     }
-    let f = sections::faults(text, o.at, top, head.faults, head.gates + head.outputs + 2);
+    let f = sections::faults(
+        text,
+        o.at,
+        head.inputs,
+        top,
+        head.faults,
+        head.gates + head.outputs + 2,
+    );
     if f.number != 0 {
         return refused(f.number, f.place);
     }
@@ -191,7 +203,7 @@ fn body(text: &[u8], from: usize, head: Head) -> Parsed
     }
 }
 
-// The circuit that a text states, with place 0, or the text's refusal, 1 to 7 with its place.
+// The circuit that a text states, with place 0, or the text's refusal, 1 to 7 or 19, with its place.
 pub fn parse(text: &[u8]) -> Parsed
     ensures { λ r. ⌜ (meaning r ≡ parseOf (now (text .entry))) × Sized (r .circuit) × (r .number ≡ 0 → r .place ≡ 0) ⌝ }
 {

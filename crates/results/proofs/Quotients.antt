@@ -1,5 +1,5 @@
 -- Sums divided by a number from 1 to 2,048:
---   quot-needs, quot-kept, rem-zero, zero-rem      the division and the remainder of 64 bits as the machine has them
+--   quot-needs, quot-is, quot-kept, rem-zero, zero-rem    the division and the remainder as the machine has them
 --   unfit-left, unfit-whole                        of `unfit`: where something is left over, and where nothing is
 --   unfit-divides, unfit-inside                    a sum that fits divides, and its quotient is not outside
 --   found-unfit, none-unfit                        what a loop that tests one sum after the other has found
@@ -16,8 +16,8 @@ use lib.Dec.{eqb, ltb}
 use lib.IntN.{ℤ, pos, negsuc, negℤ, natAbs}
 use lib.ListN.{length}
 use lib.Signed.{mag, quotZ, remZ, mag-rem}
-use mir.Syntax.{w64}
-use mir.Val.{SFits, toZ, ofZ}
+use mir.Syntax.{Width, w64}
+use mir.Val.{SFits, hbits, toZ, ofZ}
 use mir.ValLaws.{toZ-ofZ, toZ-pos}
 use borrow.Author.Tests.{not-false, ltb-false, lt-ltb, le-ltb, eqb-true, eq-eqb, ne-eqb}
 use Rattle.integer.specs.Tab.{nth, Within}
@@ -44,41 +44,40 @@ natAbs-rem : (d : ℕ) (z : ℤ) → natAbs (remZ z (pos d)) ≡ natAbs z % d
 natAbs-rem d (pos n) = refl
 natAbs-rem d (negsuc n) = natAbs-neg (pos (suc n % d))
 
-no-bits : (z : ℤ) → mag z < 2 ^ 63 → ofZ w64 z ≡ 0 → natAbs z ≡ 0
-no-bits (pos n) h e = e
-no-bits (negsuc n) h e = absurd (omega arith)
+no-bits : (w : Width) (z : ℤ) → 0 < 2 ^ hbits w → mag z < 2 ^ hbits w → ofZ w z ≡ 0 → natAbs z ≡ 0
+no-bits w z some h e = ap natAbs (sym (toZ-ofZ w z (record { sfits = h })) ∙ ap (toZ w) e ∙ toZ-pos w 0 some)
 
-bits-none : (d : ℕ) (z : ℤ) → natAbs z % d ≡ 0 → ofZ w64 (remZ z (pos d)) ≡ 0
-bits-none d (pos n) e = e
-bits-none d (negsuc n) e = ap (λ (m : ℕ). ofZ w64 (negℤ (pos m))) e
+bits-none : (w : Width) (d : ℕ) (z : ℤ) → natAbs z % d ≡ 0 → ofZ w (remZ z (pos d)) ≡ 0
+bits-none w d (pos n) e = e
+bits-none w d (negsuc n) e = ap (λ (m : ℕ). ofZ w (negℤ (pos m))) e
 
-module _ (z : ℤ) (d : ℕ) (h : mag z < 2 ^ 63) (few : (1 ≤ d) × (d ≤ 2048)) where
-  read-sum : toZ w64 (ofZ w64 z) ≡ z
-  read-sum = toZ-ofZ w64 z (record { sfits = h })
+module _ (w : Width) (room : 2048 < 2 ^ hbits w) (z : ℤ) (d : ℕ) (h : mag z < 2 ^ hbits w) (few : (1 ≤ d) × (d ≤ 2048)) where
+  read-sum : toZ w (ofZ w z) ≡ z
+  read-sum = toZ-ofZ w z (record { sfits = h })
 
-  read-divisor : toZ w64 d ≡ pos d
-  read-divisor = toZ-pos w64 d (omega (arith, few .1))
+  read-divisor : toZ w d ≡ pos d
+  read-divisor = toZ-pos w d (omega (arith, few .1))
 
-  quot-is : quotZ (toZ w64 (ofZ w64 z)) (toZ w64 d) ≡ quotientOf d z
+  pub quot-is : quotZ (toZ w (ofZ w z)) (toZ w d) ≡ quotientOf d z
   quot-is = ap₂ quotZ read-sum read-divisor
 
-  quot-fits : SFits w64 (quotientOf d z)
+  quot-fits : SFits w (quotientOf d z)
   quot-fits = record { sfits = lt-of-le-of-lt (mag-quot d z) h }
 
-  pub quot-needs : (0 < d) × SFits w64 (quotZ (toZ w64 (ofZ w64 z)) (toZ w64 d))
-  quot-needs = (few .0, subst⁻¹ (SFits w64) quot-is quot-fits)
+  pub quot-needs : (0 < d) × SFits w (quotZ (toZ w (ofZ w z)) (toZ w d))
+  quot-needs = (few .0, subst⁻¹ (SFits w) quot-is quot-fits)
 
-  pub quot-kept : toZ w64 (ofZ w64 (quotZ (toZ w64 (ofZ w64 z)) (toZ w64 d))) ≡ quotientOf d z
-  quot-kept = ap (λ (y : ℤ). toZ w64 (ofZ w64 y)) quot-is ∙ toZ-ofZ w64 (quotientOf d z) quot-fits
+  pub quot-kept : toZ w (ofZ w (quotZ (toZ w (ofZ w z)) (toZ w d))) ≡ quotientOf d z
+  quot-kept = ap (λ (y : ℤ). toZ w (ofZ w y)) quot-is ∙ toZ-ofZ w (quotientOf d z) quot-fits
 
-  rem-is : remZ (toZ w64 (ofZ w64 z)) (toZ w64 d) ≡ remZ z (pos d)
+  rem-is : remZ (toZ w (ofZ w z)) (toZ w d) ≡ remZ z (pos d)
   rem-is = ap₂ remZ read-sum read-divisor
 
-  pub rem-zero : ofZ w64 (remZ (toZ w64 (ofZ w64 z)) (toZ w64 d)) ≡ 0 → natAbs z % d ≡ 0
-  rem-zero e = sym (natAbs-rem d z) ∙ no-bits (remZ z (pos d)) (lt-of-le-of-lt (mag-rem z (pos d)) h) (ap (ofZ w64) (sym rem-is) ∙ e)
+  pub rem-zero : ofZ w (remZ (toZ w (ofZ w z)) (toZ w d)) ≡ 0 → natAbs z % d ≡ 0
+  rem-zero e = sym (natAbs-rem d z) ∙ no-bits w (remZ z (pos d)) (omega arith) (lt-of-le-of-lt (mag-rem z (pos d)) h) (ap (ofZ w) (sym rem-is) ∙ e)
 
-  pub zero-rem : natAbs z % d ≡ 0 → ofZ w64 (remZ (toZ w64 (ofZ w64 z)) (toZ w64 d)) ≡ 0
-  zero-rem e = ap (ofZ w64) rem-is ∙ bits-none d z e
+  pub zero-rem : natAbs z % d ≡ 0 → ofZ w (remZ (toZ w (ofZ w z)) (toZ w d)) ≡ 0
+  zero-rem e = ap (ofZ w) rem-is ∙ bits-none w d z e
 
 -- One sum that fits.
 

@@ -11,7 +11,8 @@
 --   Screened, screen-done, done-screen          what the answer Done of `screenOf` means
 --   Ready, ready                                and what a call knows by it
 --   screen-unsized, -wrong, -outside, -short    its refusals, in their order
---   screen-not-11, screen-due, first-passed     11 is none of them, what is due counts only for right arguments, tests after it
+--   screen-not-11, screen-due                   11 is none of them, what is due counts only for right arguments
+--   first-passed, then-done                     tests after it; where they refuse nothing its answer stands
 use mathlib.Core.Path.{_≡_, refl, sym, ap, ap₂, _∙_}
 use mathlib.Core.List.{List}
 use mathlib.Core.Bool.{Bool, true, false, not, cond, _||_, or-true, or-assoc}
@@ -211,6 +212,10 @@ screen-done low high test l room due e =
     let c = refuse-passed (ltb (firstOutside low high l) (length l)) 10 (firstOutside low high l) _ (b .1) in
     let d = refuse-passed (ltb room due) 8 0 _ (c .1) in
     record { sized = above-zero _ (eqb-false _ _ (a .0)); right = not-false test (b .0); inside = ltb-false _ _ (c .0); fits = ltb-false _ _ (d .0) }
+
+pub then-done : (a : Answer) → andThen a Done ≡ a
+then-done Done = refl
+then-done (Refused number place) = refl
 
 -- where tests after others give Done, the first did
 pub first-passed : (a b : Answer) → andThen a b ≡ Done → a ≡ Done

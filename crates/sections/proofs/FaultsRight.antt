@@ -1,7 +1,7 @@
--- What the tests of a fault line show:
---   fault-right    a fault line that is not refused names one to three lines, rising, that exist
---   there-fits     a pair that is there has a line and a value in range
---   free-line      a pair that is not there names line 0
+-- What the tests of a line of stuck lines show:
+--   stuck-fault-right    a line that is not refused names one to three lines, rising, that exist
+--   there-fits           a pair that is there has a line and a value in range
+--   free-line            a pair that is not there names line 0
 use mathlib.Core.Path.{_≡_, refl, ap}
 use mathlib.Core.Bool.{true, _&&_}
 use mathlib.Core.List.{List}
@@ -21,7 +21,7 @@ use Rattle.statements.specs.declared.Pair.{Pair}
 use Rattle.fields.proofs.Chains.{unless-passed}
 use Rattle.fields.proofs.PlainLines.{absent}
 use Rattle.statements.proofs.FormsMeant.{both-mean, below-means, range-means, there-means, PairCount, fault-formed}
-use Rattle.sections.specs.FaultLines.{Above, FaultRight}
+use Rattle.sections.specs.FaultLines.{Above, StuckFault}
 
 some-pair : (l : List ℕ) → isFault l ≡ true → 1 < fieldCount l
 some-pair l e = go (fault-formed l e .0)
@@ -52,9 +52,9 @@ above l k top e h = go (decLe (fieldCount l) k)
     go (yes none) = inl (rw (absent l k none, absent l (suc k) (omega arith)))
     go (no some) = inr (there-rises l k (lt-of-not-le some) e, h)
 
-pub fault-right : (top : ℕ) (l : List ℕ) → faultRefusal top l ≡ 0 → FaultRight top (faultOf l)
+pub stuck-fault-right : (top : ℕ) (l : List ℕ) → faultRefusal top l ≡ 0 → StuckFault top (faultOf l)
 unfolding faultRefusal faultFits linesExist linesRise faultOf pairAt
-fault-right top l e =
+stuck-fault-right top l e =
     let formed = unless-passed (isFault l) 2 _ (lit≤ tt) e in
     let fit = unless-passed (faultFits l) 3 _ (lit≤ tt) (formed .1) in
     let exist = unless-passed (linesExist top l) 5 _ (lit≤ tt) (fit .1) in
@@ -69,6 +69,7 @@ fault-right top l e =
       second = above l 3 top (r .0) (leb-true (valueAt l 3) top (y .1));
       third = above l 5 top (r .1) (leb-true (valueAt l 5) top (x .1));
       no-gap = gap l (r .0);
+      unbridged = refl;
     }
   where
     gap : (l : List ℕ) → risesAt l 3 ≡ true → valueAt l 3 ≡ 0 → valueAt l 5 ≡ 0

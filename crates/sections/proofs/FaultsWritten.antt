@@ -1,7 +1,7 @@
--- The line of a fault is accepted as that fault, and no other line is:
---   fault-told    a line of one, two or three pairs that rise, each a line of the circuit
+-- The line of a fault of stuck lines is accepted as that fault, and no other line is:
+--   stuck-told    a line of one, two or three pairs that rise, each a line of the circuit
 --   Pairs         the numbers after the first pair: those of none, one or two more
---   fault-only    a line that is accepted is the line of the fault that it says
+--   stuck-only    a line that is accepted is the line of the fault that it says
 use mathlib.Core.Path.{_≡_, refl, sym, ap, ap₂, _∙_, subst}
 use mathlib.Core.Bool.{Bool, true, false, cond, _&&_, _||_}
 use mathlib.Core.List.{List, [], _∷_, _++_, map}
@@ -26,7 +26,7 @@ use Rattle.fields.proofs.Chains.{unless-passed}
 use Rattle.fields.proofs.JoinedLines.{valuesFrom, line-ended}
 use Rattle.fields.proofs.PlainLines.{plain-count, plain-value, plain-line, absent}
 use Rattle.statements.proofs.FormsMeant.{both-mean, below-means, range-means, there-means, PairCount, fault-formed}
-use Rattle.sections.specs.FaultLines.{pairWritten, faultLine, Above, FaultRight}
+use Rattle.sections.specs.FaultLines.{pairWritten, stuckLine, Above, StuckFault}
 use Rattle.sections.proofs.FaultsRight.{there-fits, free-line}
 use Rattle.sections.proofs.LinesWritten.{Told}
 
@@ -83,7 +83,7 @@ record Pairs (f : Fault) (more : List ℕ) : Type 0 where
 in-none : (k : ℕ) (s : Pair) → s ≡ free → PairIn [] k s
 in-none k s e = (sym (free-line e), ap (λ (s : Pair). valueBit (s .value)) (sym e))
 
-module _ (top : ℕ) (f : Fault) (most : top ≤ 56) (r : FaultRight top f) where
+module _ (top : ℕ) (f : Fault) (most : top ≤ 56) (r : StuckFault top f) where
   above-high : (last : ℕ) (s : Pair) → Above last top s → s .line ≤ top
   above-high last s (inl none) = omega (arith, free-line none)
   above-high last s (inr some) = some .1
@@ -91,8 +91,8 @@ module _ (top : ℕ) (f : Fault) (most : top ≤ 56) (r : FaultRight top f) wher
   pair-most : (s : Pair) (limits rest : List ℕ) → s .line ≤ top → AtMost limits rest → AtMost (56 ∷ 1 ∷ limits) (pairFields s ++ rest)
   pair-most s limits rest h m = (omega arith, (bit-range (s .value), m))
 
-  pairs-told : (more : List ℕ) → Pairs f more → Told 21 (faultRefusal top) faultOf (faultLine f) f
-  unfolding faultLine faultRefusal isFault faultFits linesExist linesRise faultOf unless indexOf any lineOf numbersOf gather numberField integerOf decimalOf decimalTo
+  pairs-told : (more : List ℕ) → Pairs f more → Told 21 (faultRefusal top) faultOf (stuckLine f) f
+  unfolding stuckLine faultRefusal isFault faultFits linesExist linesRise faultOf unless indexOf any lineOf numbersOf gather numberField integerOf decimalOf decimalTo
   pairs-told more p =
       record {
         word = faultWord;
@@ -113,7 +113,7 @@ module _ (top : ℕ) (f : Fault) (most : top ≤ 56) (r : FaultRight top f) wher
           pair-rises l 3 (f .second) (two .0) (two .1) (f .first .line) (at 0) two-rises,
           pair-rises l 5 (f .third) (three .0) (three .1) (f .second .line) (two .0) three-rises,
         );
-        says = rw (pair-says l 1 (f .first) (at 0) (at 1), pair-says l 3 (f .second) (two .0) (two .1), pair-says l 5 (f .third) (three .0) (three .1));
+        says = rw (pair-says l 1 (f .first) (at 0) (at 1), pair-says l 3 (f .second) (two .0) (two .1), pair-says l 5 (f .third) (three .0) (three .1), r .unbridged);
         short = line-longest faultWord longest ns high;
       }
     where
@@ -163,10 +163,10 @@ module _ (top : ℕ) (f : Fault) (most : top ≤ 56) (r : FaultRight top f) wher
       three-rises : 5 < fieldCount l → f .second .line < f .third .line
       three-rises h = p .third-there (omega (arith, count))
 
-  pub fault-told : Told 21 (faultRefusal top) faultOf (faultLine f) f
-  fault-told = go (r .second) (r .third)
+  pub stuck-told : Told 21 (faultRefusal top) faultOf (stuckLine f) f
+  stuck-told = go (r .second) (r .third)
     where
-      go : Above (f .first .line) top (f .second) → Above (f .second .line) top (f .third) → Told 21 (faultRefusal top) faultOf (faultLine f) f
+      go : Above (f .first .line) top (f .second) → Above (f .second .line) top (f .third) → Told 21 (faultRefusal top) faultOf (stuckLine f) f
       go (inl none) (inl last) =
           pairs-told []
           record {
@@ -221,9 +221,9 @@ module _ (l : List ℕ) (k : ℕ) where
   unfolding pairWritten pairAt
   no-pair h = rw (absent l k h)
 
-pub fault-only : (top : ℕ) (l : List ℕ) → faultRefusal top l ≡ 0 → l ++ (lineEnd ∷ []) ≡ faultLine (faultOf l)
-unfolding faultRefusal faultFits faultLine faultOf
-fault-only top l e =
+pub stuck-only : (top : ℕ) (l : List ℕ) → faultRefusal top l ≡ 0 → l ++ (lineEnd ∷ []) ≡ stuckLine (faultOf l)
+unfolding faultRefusal faultFits stuckLine faultOf
+stuck-only top l e =
     let passed = unless-passed (isFault l) 2 _ (lit≤ tt) e in
     let fit = both (pairFits l 1 && pairFits l 3) (pairFits l 5) (unless-passed (faultFits l) 3 _ (lit≤ tt) (passed .1) .0) in
     let first = both (pairFits l 1) (pairFits l 3) (fit .0) in

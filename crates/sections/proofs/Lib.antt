@@ -1,5 +1,6 @@
 pub mod FaultsRight
 pub mod FaultsWritten
+pub mod BridgesWritten
 pub mod LineLoops
 pub mod LinesDue
 pub mod LinesOnly

@@ -1,11 +1,12 @@
 // The fault lines of a text, one after the other. The definitions and laws beside them are over lines of any kind.
+use statements::Bridge;
 use statements::Fault;
 use statements::Pair;
 ghost use mathlib.Core.Path.{_≡_};
 ghost use mathlib.Core.List.{[]};
 ghost use Prim.Native.Nat.{_≤_};
 ghost use lib.ListN.{drop};
-ghost use Rattle.statements.specs.Lines.{faultOf};
+ghost use Rattle.statements.specs.Lines.{faultLineOf};
 ghost use Rattle.sections.specs.Sections.{linesOf, readOf};
 ghost use Rattle.sections.specs.FaultLines.{nthFaultRefusal};
 
@@ -17,10 +18,17 @@ pub struct FaultLines {
     pub faults: [Fault; 32],
 }
 
-// The `count` fault lines from `from` on, the first of which is line `place`; `top` is the last line that may be named.
-pub fn faults(text: &[u8], from: usize, top: usize, count: usize, place: usize) -> FaultLines
+// The `count` fault lines from `from` on, the first of which is line `place`; `top` is the last line that may be stuck.
+pub fn faults(
+    text: &[u8],
+    from: usize,
+    inputs: usize,
+    top: usize,
+    count: usize,
+    place: usize,
+) -> FaultLines
     requires { ⌜ (count ≤ 32) × (place ≤ 54) ⌝ }
-    ensures { λ r. ⌜ readOf (now (text .entry)) count (r .number) (r .place) (r .at) (r .faults) ≡ linesOf (nthFaultRefusal top) faultOf count place (drop from (now (text .entry))) [] ⌝ }
+    ensures { λ r. ⌜ readOf (now (text .entry)) count (r .number) (r .place) (r .at) (r .faults) ≡ linesOf (nthFaultRefusal inputs top) faultLineOf count place (drop from (now (text .entry))) [] ⌝ }
 {
     let free = Pair {
         line: 0,
@@ -30,6 +38,10 @@ pub fn faults(text: &[u8], from: usize, top: usize, count: usize, place: usize) 
         first: free,
         second: free,
         third: free,
+        bridge: Bridge {
+            first: 0,
+            second: 0,
+        },
     };
     let mut faults = [none; 32];
     let mut at = from;
@@ -44,7 +56,7 @@ pub fn faults(text: &[u8], from: usize, top: usize, count: usize, place: usize) 
                 faults,
             };
         }
-        let said = statements::fault_line(top, &text[at..end]);
+        let said = statements::fault_or_bridge(inputs, top, &text[at..end]);
         let number = said.number;
         if number != 0 {
             return FaultLines {

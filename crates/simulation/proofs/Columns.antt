@@ -1,28 +1,34 @@
 -- Columns of line values, one value a row:
 --   blank-columns                              columns of zeros are those of no line
+--   source-joined, source-apart                which bit an input gets where a bridge joins it, and where none does
+--   sources-show                               the two bits that an input gets, under a bridge or not, have the AND that it shows
 --   input-next, gates-next                     one input's column more, one gate's column more
 --   slot-shows                                 what is read at a line's slot is what the line shows
 use mathlib.Core.Path.{_≡_, refl, sym, ap, ap₂, _∙_, subst}
-use mathlib.Core.Bool.{Bool, true, false, cond}
+use mathlib.Core.Bool.{Bool, true, false, cond, _&&_}
 use mathlib.Core.List.{List, [], _∷_, _++_}
-use Prim.Native.Nat.{ℕ, zero, suc, _+_, _*_, _≤_, _<_}
+use Prim.Native.Nat.{ℕ, zero, suc, _+_, _*_, _-_, _/_, _%_, _^_, _≤_, _<_}
 use native.Mathlib.Decide.{ℕ-discrete}
+use native.Mathlib.Nat.{lt-of-lt-of-le, div-eq-of-lt}
 use native.Mathlib.Omega.{arith}
 use borrow.Author.Tests.{ltb-true, ltb-false}
-use lib.Dec.{ltb}
+use lib.Dec.{eqb, ltb}
 use lib.ListN.{length, take, getD, replicate, List·getD-eq-default}
+use lib.Pow.{pow-mono}
 use lib.Seq.{getD-append-seam, length-take-le}
 use Rattle.integer.specs.Tab.{tab}
 use Rattle.netlist.specs.Circuits.{Sized}
 use Rattle.netlist.specs.declared.Circuit.{Circuit}
 use Rattle.statements.specs.Items.{noGate}
+use Rattle.statements.specs.declared.Bridge.{Bridge}
 use Rattle.statements.specs.declared.Fault.{Fault}
 use Rattle.statements.specs.declared.Gate.{Gate}
-use Rattle.gates.specs.Gates.{gateValue, shown, applied}
+use Rattle.gates.specs.Gates.{gateValue, shown, applied, joins, appliedUnder}
 use Rattle.gates.specs.Steps.{shownAt, seenAs, Columned, inputRule, gateRule}
 use Rattle.gates.specs.declared.Seen.{Seen}
+use Rattle.gates.proofs.AppliedInputs.{applied-joined, applied-apart}
 use Rattle.simulation.specs.Rows.{inputValues, reads, gateNext, gatesNext}
-use Rattle.simulation.specs.Steps.{Columns, inputLines, slotOf}
+use Rattle.simulation.specs.Steps.{Columns, inputLines, rowBitOf, sourceOf, slotOf}
 use Rattle.simulation.proofs.LineValues.{length-inputs, length-lines, input-more, gates-more}
 
 -- What columns say of lines.
@@ -67,13 +73,60 @@ seen-is f line s e false = e .1
 columns-as : {values : List Bool} (n : ℕ) (lines others : ℕ → List Bool) → ((x : ℕ) → x < n → lines x ≡ others x) → Columns values n lines → Columns values n others
 columns-as n lines others same are = record { each = λ i x l h. are .each i x l h ∙ ap (λ (r : List Bool). reads r i) (same x h) }
 
+-- What an input gets.
+
+-- a row below 256 has no bit above bit 7
+no-bit : (x i : ℕ) → x < 256 → 8 ≤ i → applied x i ≡ false
+no-bit x i small high =
+    let past : x < 2 ^ i = lt-of-lt-of-le small (pow-mono {i = 8} high) in
+    ap (λ (y : ℕ). eqb (y % 2) 1) (div-eq-of-lt past)
+
+row-bit-shows : (x input : ℕ) → x < 256 → applied x (rowBitOf input) ≡ applied x (input - 1)
+unfolding rowBitOf
+row-bit-shows x input small = pick (ltb input 9) refl
+  where
+    pick : (b : Bool) → ltb input 9 ≡ b → applied x (cond b (input - 1) 8) ≡ applied x (input - 1)
+    pick true e = refl
+    pick false e = no-bit x 8 small (omega arith) ∙ sym (no-bit x (input - 1) small (omega (arith, ltb-false input 9 e)))
+
+module _ (b : Bridge) (i input : ℕ) where
+  pub source-joined : joins b i ≡ true → sourceOf b i input ≡ rowBitOf input
+  unfolding sourceOf
+  source-joined e = rw e
+
+  pub source-apart : joins b i ≡ false → sourceOf b i input ≡ i
+  unfolding sourceOf
+  source-apart e = rw e
+
+pub sources-show : (b : Bridge) (i x : ℕ) → x < 256 → (applied x (sourceOf b i (b .first)) && applied x (sourceOf b i (b .second))) ≡ appliedUnder b x i
+sources-show b i x small = pick (joins b i) refl
+  where
+    alike : (v : Bool) → v && v ≡ v
+    alike true = refl
+    alike false = refl
+
+    sources : {p q : ℕ} → sourceOf b i (b .first) ≡ p → sourceOf b i (b .second) ≡ q
+        → (applied x (sourceOf b i (b .first)) && applied x (sourceOf b i (b .second))) ≡ (applied x p && applied x q)
+    sources e g = ap₂ (λ (k m : ℕ). applied x k && applied x m) e g
+
+    pick : (t : Bool) → joins b i ≡ t → (applied x (sourceOf b i (b .first)) && applied x (sourceOf b i (b .second))) ≡ appliedUnder b x i
+    pick true e =
+        sources (source-joined b i (b .first) e) (source-joined b i (b .second) e)
+        ∙ ap₂ (λ (v w : Bool). v && w) (row-bit-shows x (b .first) small) (row-bit-shows x (b .second) small)
+        ∙ sym (applied-joined b x i e)
+    pick false e = sources (source-apart b i (b .first) e) (source-apart b i (b .second) e) ∙ alike (applied x i) ∙ sym (applied-apart b x i e)
+
 module _ (f : Fault) (n : ℕ) {values after : List Bool} (small : n ≤ 256) where
-  pub input-next : (i : ℕ) (s : Seen) → (s .one ≡ shown f (i + 1) true) × (s .zero ≡ shown f (i + 1) false)
-      → Columns values n (inputLines f i) → Columned values after (i + 1) n (inputRule s i) → Columns after n (inputLines f (i + 1))
-  input-next i s e are made =
-      columns-as n (λ x. inputLines f i x ++ (inputRule s i x ∷ [])) (inputLines f (i + 1))
-      (λ x h. ap (λ (v : Bool). inputValues f x i ++ (v ∷ [])) (seen-is f (i + 1) s e (applied x i)) ∙ input-more f x i)
-      (next n (i + 1) (inputLines f i) (inputRule s i) small (λ x h. length-inputs f x i) are made)
+  pub input-next : (i : ℕ) {p q : ℕ} (s : Seen) → (s .one ≡ shown f (i + 1) true) × (s .zero ≡ shown f (i + 1) false)
+      → p ≡ sourceOf (f .bridge) i (f .bridge .first) → q ≡ sourceOf (f .bridge) i (f .bridge .second)
+      → Columns values n (inputLines f i) → Columned values after (i + 1) n (inputRule s p q) → Columns after n (inputLines f (i + 1))
+  input-next i {p} {q} s e first second are made =
+      columns-as n (λ x. inputLines f i x ++ (inputRule s p q x ∷ [])) (inputLines f (i + 1))
+      (λ x h. ap (λ (v : Bool). inputValues f x i ++ (v ∷ [])) (seen-is f (i + 1) s e (applied x p && applied x q) ∙ ap (shown f (i + 1)) (gets x (omega arith))) ∙ input-more f x i)
+      (next n (i + 1) (inputLines f i) (inputRule s p q) small (λ x h. length-inputs f x i) are made)
+    where
+      gets : (x : ℕ) → x < 256 → (applied x p && applied x q) ≡ appliedUnder (f .bridge) x i
+      gets x h = ap₂ (λ (k m : ℕ). applied x k && applied x m) first second ∙ sources-show (f .bridge) i x h
 
 reads-slot : (l : List Bool) (line : ℕ) → length l ≤ 57 → reads l (slotOf line) ≡ reads l line
 unfolding slotOf

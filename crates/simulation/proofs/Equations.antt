@@ -1,5 +1,5 @@
 -- Line values satisfy the circuit's equations, whatever the order in which they are worked out:
---   input-lines    an input's line shows what is applied to it, seen through the fault
+--   input-lines    an input's line shows what it gets, seen through the fault: what is applied to it, and under a bridge the AND of both
 --   gate-lines     a gate's line shows its kind's value of the lines that it reads, as they are shown, seen through the fault
 use mathlib.Core.Path.{_≡_, refl, sym, ap, ap₂, _∙_, subst}
 use mathlib.Core.Bool.{Bool}
@@ -16,7 +16,7 @@ use Rattle.netlist.specs.WellFormed.{WellFormed}
 use Rattle.statements.specs.Items.{noGate}
 use Rattle.statements.specs.declared.Fault.{Fault}
 use Rattle.statements.specs.declared.Gate.{Gate}
-use Rattle.gates.specs.Gates.{gateValue, shown, applied}
+use Rattle.gates.specs.Gates.{gateValue, shown, appliedUnder}
 use Rattle.simulation.specs.Rows.{inputShown, inputValues, reads, gateNext, gatesNext, lineValues}
 use Rattle.simulation.proofs.LineValues.{length-inputs, length-next}
 
@@ -57,7 +57,7 @@ module _ (f : Fault) where
       (nth-gate gates (gateNext f l g) j (omega arith) (omega (arith, length-next f l g)) (omega (arith, length-next f l g)))
 
 module _ (n : Netlist) (f : Fault) (x : ℕ) where
-  pub input-lines : (i : ℕ) → i < n .inputs → reads (lineValues n f x) (i + 1) ≡ shown f (i + 1) (applied x i)
+  pub input-lines : (i : ℕ) → i < n .inputs → reads (lineValues n f x) (i + 1) ≡ shown f (i + 1) (appliedUnder (f .bridge) x i)
   unfolding lineValues inputValues
   input-lines i h =
       let l = inputValues f x (n .inputs) in

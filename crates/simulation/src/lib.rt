@@ -1,6 +1,7 @@
 // Simulation of a circuit: the rows of its outputs, sound or under a fault. Where a circuit comes from and what is done with its rows is the
 // business of other crates.
 use netlist::Circuit;
+use statements::Bridge;
 use statements::Fault;
 use statements::Output;
 ghost use mathlib.Core.Path.{_≡_};
@@ -10,7 +11,27 @@ ghost use lib.ListN.{length};
 ghost use Rattle.integer.specs.Tab.{tab};
 ghost use Rattle.netlist.specs.Circuits.{netlistOf, Sized};
 ghost use Rattle.simulation.specs.Rows.{lineValues, weighed, rowsOf};
-ghost use Rattle.simulation.specs.Steps.{Columns, inputLines, slotOf, readSum};
+ghost use Rattle.simulation.specs.Steps.{Columns, inputLines, rowBitOf, sourceOf, slotOf, readSum};
+
+// Which bit of a row an input is; past the last input a bit that no row has.
+fn row_bit(input: u16) -> usize
+    ensures { λ r. ⌜ (r ≡ rowBitOf input) × (r ≤ 8) ⌝ }
+{
+    if input == 0 {
+        return 0;
+    }
+    if input < 9 { (input - 1) as usize } else { 8 }
+}
+
+// The bit that input i, from 0, gets for one of the bridge's inputs: that input's where the bridge joins i, else its own.
+fn source(b: Bridge, i: usize, input: u16) -> usize
+    requires { ⌜ i < 8 ⌝ }
+    ensures { λ r. ⌜ (r ≡ sourceOf b i input) × (r ≤ 8) ⌝ }
+{
+    let line = i + 1;
+    let joined = (b.first as usize == line) | (b.second as usize == line);
+    if joined { row_bit(input) } else { i }
+}
 
 // The columns of the inputs.
 fn input_columns(values: &mut [bool], f: Fault, inputs: usize, n: usize)
@@ -19,7 +40,9 @@ fn input_columns(values: &mut [bool], f: Fault, inputs: usize, n: usize)
 {
     let mut i: usize = 0;
     while i < inputs {
-        gates::input_column(values, i, gates::through(f, i + 1), n);
+        let p = source(f.bridge, i, f.bridge.first);
+        let q = source(f.bridge, i, f.bridge.second);
+        gates::input_column(values, i, p, q, gates::through(f, i + 1), n);
         i += 1;
     }
 }

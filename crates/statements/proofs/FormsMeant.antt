@@ -1,10 +1,12 @@
 -- The tests of a line ask of its fields what `LineForms` asks of the numbers that it is written from:
---   head-form, gate-form, output-form, fault-form       for each of the four kinds of line
---   both-mean, below-means, range-means, there-means    what single tests mean
+--   head-form, gate-form, output-form, fault-form, bridge-form    for each kind of line
+--   fault-line-form                                     a fault line is answered as a line of its form
+--   both-mean, at-most-means, below-means, range-means, there-means    what single tests mean
 --   gate-kind, gate-value                               what is read of a gate's line
 --   PairCount, fault-formed                             the fields of a fault line: a word and the numbers of one to three pairs
+--   bridge-named, fault-unnamed, word-told              its word tells a bridge from a fault of stuck lines
 use mathlib.Core.Path.{_≡_, refl, sym, ap, _∙_, subst}
-use mathlib.Core.Bool.{Bool, true, _&&_, _||_}
+use mathlib.Core.Bool.{Bool, true, false, cond, _&&_, _||_, false≢true}
 use mathlib.Core.List.{List, [], _∷_, _++_, map}
 use mathlib.Core.Logic.{_↔_, Iff·trans, _⊎_, inl, inr, ⊎-map}
 use Prim.Native.Nat.{ℕ, zero, suc, _+_, _-_, _<_, _≤_}
@@ -16,25 +18,27 @@ use lib.IntN.{pos}
 use lib.ListN.{length, getD, List·getD-eq-default}
 use borrow.Author.Tests.{leb-true, ltb-true, eqb-true, le-leb, lt-leb, lt-ltb, eq-eqb}
 use Rattle.integer.proofs.Bools.{both, either}
-use Rattle.text.specs.Text.{comma, indexOf, fieldOf, fieldCount}
+use Rattle.text.specs.Text.{comma, indexOf, fieldOf, fieldCount, sameBytes}
+use Rattle.text.proofs.Words.{same-self}
 use Rattle.writing.specs.Writing.{Small}
 use Rattle.writing.proofs.LineFields.{next-field, word-field}
-use Rattle.fields.specs.Fields.{inRange, fits, isLine, valueAt}
-use Rattle.fields.proofs.JoinedLines.{valuesFrom, values-small, line-joined, two-words-joined, line-form}
+use Rattle.fields.specs.Fields.{inRange, fits, isLine, valueAt, Fails, LeastFailing}
+use Rattle.fields.proofs.JoinedLines.{valuesFrom, values-small, line-joined, two-words-joined, line-form, word-is}
 use Rattle.fields.proofs.PlainLines.{range, in-range, plain-count, plain-value, plain-numbers, plain-line, value-after-word, line-after-word}
 use Rattle.kinds.specs.Kinds.{kindWord, isKind, kindOf}
 use Rattle.kinds.specs.declared.Kind.{Kind}
 use Rattle.kinds.specs.declared.Kind.the-variants.{And, Or, Nand, Nor, Xor, Xnor, Not}
 use Rattle.kinds.proofs.KindWords.{kind-written, kind-only}
-use Rattle.statements.specs.Lines.{circuitWord, gateWord, outputWord, faultWord, isHead, headFits, isGate, secondFits, gateFits, readsBelow, isOutput, outputFits, isFault, pairInRange, pairFits, faultFits, linesExist, risesAt, linesRise}
-use Rattle.statements.specs.LineForms.{lineFrom, HeadForm, SecondInRange, gateFrom, GateForm, OutputForm, flatPairs, lineOfPair, valueOfPair, FaultPairs, FaultForm}
+use Rattle.statements.specs.Lines.{circuitWord, gateWord, outputWord, faultWord, bridgeWord, isHead, headFits, isGate, secondFits, gateFits, readsBelow, isOutput, outputFits, isFault, pairInRange, pairFits, faultFits, linesExist, risesAt, linesRise, faultRefusal, isBridge, bridgeFits, inputsRise, bridgeRefusal, namesBridge, faultLineRefusal}
+use Rattle.statements.specs.LineForms.{lineFrom, HeadForm, SecondInRange, gateFrom, GateForm, OutputForm, flatPairs, lineOfPair, valueOfPair, FaultPairs, FaultForm, BridgeForm, FaultLineForm}
+use Rattle.statements.proofs.LineNumbers.{fault-least, bridge-least}
 
 -- ---- tests and what they mean
 
 pub both-mean : {A B : Type 0} {a b : Bool} → (a ≡ true) ↔ A → (b ≡ true) ↔ B → ((a && b) ≡ true) ↔ (A × B)
 both-mean {a = a} {b = b} f g = (λ e. let t = both a b e in (f .0 (t .0), g .0 (t .1)), λ t. rw (f .1 (t .0)) (g .1 (t .1)))
 
-at-most-means : {a b v w : ℕ} → v ≡ a → w ≡ b → (leb v w ≡ true) ↔ (a ≤ b)
+pub at-most-means : {a b v w : ℕ} → v ≡ a → w ≡ b → (leb v w ≡ true) ↔ (a ≤ b)
 at-most-means {a = a} {b = b} e f = rw (e, f) (leb-true a b, le-leb a b)
 
 pub below-means : {a b v w : ℕ} → v ≡ a → w ≡ b → (ltb v w ≡ true) ↔ (a < b)
@@ -273,3 +277,92 @@ fault-form =
       exists = λ top pairs right. Iff·trans (both-mean (both-mean (pair-exists pairs right top 0) (pair-exists pairs right top 1)) (pair-exists pairs right top 2)) (first-three _ (length pairs) (right .few));
       rise = fault-rise;
     }
+
+-- ---- bridges
+
+module _ (i j : ℕ) (small : Small (i ∷ j ∷ [])) where
+  bridge-value : (k : ℕ) → valueAt (lineFrom bridgeWord (i ∷ j ∷ [])) (suc k) ≡ getD (i ∷ j ∷ []) k 0
+  unfolding indexOf
+  bridge-value k = plain-value bridgeWord (i ∷ j ∷ []) small refl k
+
+  bridge-range : (bridgeFits (lineFrom bridgeWord (i ∷ j ∷ [])) ≡ true) ↔ ((1 ≤ i) × (i ≤ 56) × (1 ≤ j) × (j ≤ 56))
+  unfolding bridgeFits fits
+  bridge-range = Iff·trans (both-mean (range-means (bridge-value 0) 1 56) (range-means (bridge-value 1) 1 56)) (λ t. (t .0 .0, t .0 .1, t .1 .0, t .1 .1), λ t. ((t .0, t .1), (t .2, t .3)))
+
+  bridge-inputs : (n : ℕ) → (inputsRise n (lineFrom bridgeWord (i ∷ j ∷ [])) ≡ true) ↔ ((i ≤ n) × (j ≤ n) × (i < j))
+  unfolding inputsRise
+  bridge-inputs n =
+      Iff·trans (both-mean (both-mean (at-most-means (bridge-value 0) refl) (at-most-means (bridge-value 1) refl)) (below-means (bridge-value 0) (bridge-value 1)))
+      (λ t. (t .0 .0, t .0 .1, t .1), λ t. ((t .0, t .1), t .2))
+
+pub bridge-form : BridgeForm
+unfolding isBridge indexOf
+bridge-form = record { form = λ l. line-form l bridgeWord 2 refl; range = bridge-range; inputs = λ n i j small. bridge-inputs i j small n }
+
+-- ---- fault lines of either kind
+
+module _ (l : List ℕ) where
+  pub bridge-named : isBridge l ≡ true → namesBridge l ≡ true
+  unfolding isBridge namesBridge
+  bridge-named e = ap (λ (w : List ℕ). sameBytes w bridgeWord) (word-is l bridgeWord 1 3 e) ∙ same-self bridgeWord
+
+  pub fault-unnamed : isFault l ≡ true → namesBridge l ≡ false
+  unfolding namesBridge sameBytes
+  fault-unnamed e = ap (λ (w : List ℕ). sameBytes w bridgeWord) (word-is l faultWord 1 (fieldCount l) (fault-formed l e .1))
+
+  -- as the code asks it
+  pub word-told : {field : List ℕ} {r b : Bool} → field ≡ fieldOf l 0 → r ≡ sameBytes field bridgeWord → r ≡ b → namesBridge l ≡ b
+  unfolding namesBridge
+  word-told f said e = ap (λ (w : List ℕ). sameBytes w bridgeWord) (sym f) ∙ sym said ∙ e
+
+-- 2 is given exactly where the first test fails, and by no later one
+two-exactly : (b : Bool) (rest : List (ℕ × Bool)) (number : ℕ) → ((k : ℕ) → Fails rest k → 2 < k) → LeastFailing ((2, b) ∷ rest) number → (number ≡ 2) ↔ (b ≡ true → ⊥)
+two-exactly b rest number above l = (λ e t. there (l .given) e t, λ n. back b n refl)
+  where
+    there : (number ≡ 0) ⊎ Fails ((2, b) ∷ rest) number → number ≡ 2 → b ≡ true → ⊥
+    there (inl z) e t = omega arith
+    there (inr (inl f)) e t = false≢true (sym (f .1) ∙ t)
+    there (inr (inr f)) e t = omega (arith, above number f)
+
+    -- a number from 1 to 2
+    only : (number ≡ 0) ⊎ Fails ((2, b) ∷ rest) number → 1 ≤ number → number ≤ 2 → number ≡ 2
+    only (inl z) low high = omega arith
+    only (inr (inl f)) low high = sym (f .0)
+    only (inr (inr f)) low high = omega (arith, above number f)
+
+    back : (t : Bool) → (t ≡ true → ⊥) → b ≡ t → number ≡ 2
+    back true n e = absurd (n refl)
+    back false n e = let m = l .least 2 (inl (refl, e)) in only (l .given) (m .0) (m .1)
+
+fault-two : (top : ℕ) (l : List ℕ) → (faultRefusal top l ≡ 2) ↔ (isFault l ≡ true → ⊥)
+fault-two top l = two-exactly (isFault l) ((3, faultFits l) ∷ (5, linesExist top l) ∷ (6, linesRise l) ∷ []) (faultRefusal top l) above (fault-least top l)
+  where
+    above : (k : ℕ) → Fails ((3, faultFits l) ∷ (5, linesExist top l) ∷ (6, linesRise l) ∷ []) k → 2 < k
+    above k (inl f) = omega (arith, f .0)
+    above k (inr (inl f)) = omega (arith, f .0)
+    above k (inr (inr (inl f))) = omega (arith, f .0)
+
+bridge-two : (inputs : ℕ) (l : List ℕ) → (bridgeRefusal inputs l ≡ 2) ↔ (isBridge l ≡ true → ⊥)
+bridge-two inputs l = two-exactly (isBridge l) ((3, bridgeFits l) ∷ (19, inputsRise inputs l) ∷ []) (bridgeRefusal inputs l) above (bridge-least inputs l)
+  where
+    above : (k : ℕ) → Fails ((3, bridgeFits l) ∷ (19, inputsRise inputs l) ∷ []) k → 2 < k
+    above k (inl f) = omega (arith, f .0)
+    above k (inr (inl f)) = omega (arith, f .0)
+
+pub fault-line-form : FaultLineForm
+unfolding faultLineRefusal
+fault-line-form =
+    record {
+      neither = λ inputs top l. go inputs top l (namesBridge l) refl;
+      stuck = λ inputs top l e. rw (fault-unnamed l e);
+      bridge = λ inputs top l e. rw (bridge-named l e);
+    }
+  where
+    go : (inputs top : ℕ) (l : List ℕ) (b : Bool) → namesBridge l ≡ b
+        → (cond b (bridgeRefusal inputs l) (faultRefusal top l) ≡ 2) ↔ ((isFault l ≡ true → ⊥) × (isBridge l ≡ true → ⊥))
+    go inputs top l true named =
+        let t = bridge-two inputs l in
+        (λ e. (λ f. false≢true (sym (fault-unnamed l f) ∙ named), t .0 e), λ n. t .1 (n .1))
+    go inputs top l false named =
+        let t = fault-two top l in
+        (λ e. (t .0 e, λ f. false≢true (sym named ∙ bridge-named l f)), λ n. t .1 (n .0))

@@ -1,12 +1,12 @@
--- The number of a line, for each of the four kinds:
---   head-least, gate-least, output-least, fault-least        it is the least number of a test that fails, "2, 3, then 4, 5, 6"
---   head-number, gate-number, output-number, fault-number    it is 0 or 2 to 6
+-- The number of a line, for each kind:
+--   head-least, gate-least, output-least, fault-least, bridge-least    it is the least number of a test that fails, "2, 3, then 4, 5, 6"
+--   head-number, gate-number, output-number, fault-number              it is 0 or 2 to 6
 use mathlib.Core.List.{List}
 use Prim.Native.Nat.{ℕ}
 use lib.Dec.{lit≤, lit<}
 use Rattle.fields.specs.Fields.{LeastFailing}
 use Rattle.fields.proofs.Chains.{LineNumber, RisingTests, chain-least, chain-number}
-use Rattle.statements.specs.Lines.{headTests, headRefusal, gateTests, gateRefusal, outputTests, outputRefusal, faultTests, faultRefusal}
+use Rattle.statements.specs.Lines.{headTests, headRefusal, gateTests, gateRefusal, outputTests, outputRefusal, faultTests, faultRefusal, bridgeTests, bridgeRefusal}
 
 module _ (l : List ℕ) where
   head-rising : RisingTests 6 1 (headTests l)
@@ -54,3 +54,7 @@ module _ (top : ℕ) (l : List ℕ) where
   pub fault-number : LineNumber (faultRefusal top l)
   unfolding faultRefusal
   fault-number = chain-number 1 (faultTests top l) (lit≤ tt) fault-rising
+
+pub bridge-least : (inputs : ℕ) (l : List ℕ) → LeastFailing (bridgeTests inputs l) (bridgeRefusal inputs l)
+unfolding bridgeRefusal
+bridge-least inputs l = chain-least 19 1 (bridgeTests inputs l) (lit< tt, (lit< tt, (lit< tt, lit≤ tt)))

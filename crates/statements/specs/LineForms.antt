@@ -1,5 +1,5 @@
--- What the tests of each kind of line ask, said of the numbers that the line is written from (document 01, "The circuit text"): the form without which it is
--- refused by 2, the ranges of 3, and what 4, 5 and 6 compare. A second statement beside `Lines`, which reads fields out of bytes; they agree
+-- What the tests of each kind of line ask, said of the numbers that the line is written from (document 01, "The circuit text"; document 02, note 8): the form
+-- without which it is refused by 2, the ranges of 3, and what 4, 5, 6 and 19 compare. A second statement beside `Lines`, which reads fields out of bytes; they agree
 -- (proofs/FormsMeant).
 use Prim.Native.Nat.{ℕ, suc, _<_, _≤_}
 use mathlib.Core.Bool.{true}
@@ -15,7 +15,7 @@ use Rattle.fields.specs.Fields.{valueAt}
 use Rattle.kinds.specs.Kinds.{kindWord}
 use Rattle.kinds.specs.declared.Kind.{Kind}
 use Rattle.kinds.specs.declared.Kind.the-variants.{And, Or, Nand, Nor, Xor, Xnor, Not}
-use Rattle.statements.specs.Lines.{circuitWord, gateWord, outputWord, faultWord, isHead, headFits, isGate, gateFits, readsBelow, isOutput, outputFits, isFault, faultFits, linesExist, linesRise}
+use Rattle.statements.specs.Lines.{circuitWord, gateWord, outputWord, faultWord, bridgeWord, isHead, headFits, isGate, gateFits, readsBelow, isOutput, outputFits, isFault, faultFits, linesExist, linesRise, faultRefusal, isBridge, bridgeFits, inputsRise, bridgeRefusal, faultLineRefusal}
 
 -- a line without its end: a word, then numbers, each after a comma
 abbrev pub lineFrom : List ℕ → List ℕ → List ℕ
@@ -77,3 +77,15 @@ pub record FaultForm : Type 0 where
       → (faultFits (lineFrom faultWord (flatPairs pairs)) ≡ true) ↔ ((i : ℕ) → i < length pairs → (1 ≤ lineOfPair pairs i) × (lineOfPair pairs i ≤ 56) × (valueOfPair pairs i ≤ 1))
   pub exists : (top : ℕ) (pairs : List (ℕ × ℕ)) → FaultPairs pairs → (linesExist top (lineFrom faultWord (flatPairs pairs)) ≡ true) ↔ ((i : ℕ) → i < length pairs → lineOfPair pairs i ≤ top)
   pub rise : (pairs : List (ℕ × ℕ)) → FaultPairs pairs → (linesRise (lineFrom faultWord (flatPairs pairs)) ≡ true) ↔ ((i : ℕ) → suc i < length pairs → lineOfPair pairs i < lineOfPair pairs (suc i))
+
+-- "A fault line may read `bridge,I,J` with inputs I below J (3 outside 1 to 56)." "19 where I or J is above N or they do not rise"
+pub record BridgeForm : Type 0 where
+  pub form : (l : List ℕ) → (isBridge l ≡ true) ↔ ((ns : List ℕ) × Small ns × (length ns ≡ 2) × (l ≡ lineFrom bridgeWord ns))
+  pub range : (i j : ℕ) → let ns = i ∷ j ∷ [] in Small ns → (bridgeFits (lineFrom bridgeWord ns) ≡ true) ↔ ((1 ≤ i) × (i ≤ 56) × (1 ≤ j) × (j ≤ 56))
+  pub inputs : (n i j : ℕ) → let ns = i ∷ j ∷ [] in Small ns → (inputsRise n (lineFrom bridgeWord ns) ≡ true) ↔ ((i ≤ n) × (j ≤ n) × (i < j))
+
+-- a fault line has one of the two forms, else it is refused by 2; and it is answered as a line of its form
+pub record FaultLineForm : Type 0 where
+  pub neither : (inputs top : ℕ) (l : List ℕ) → (faultLineRefusal inputs top l ≡ 2) ↔ ((isFault l ≡ true → ⊥) × (isBridge l ≡ true → ⊥))
+  pub stuck : (inputs top : ℕ) (l : List ℕ) → isFault l ≡ true → faultLineRefusal inputs top l ≡ faultRefusal top l
+  pub bridge : (inputs top : ℕ) (l : List ℕ) → isBridge l ≡ true → faultLineRefusal inputs top l ≡ bridgeRefusal inputs l

@@ -1,16 +1,18 @@
 -- What each line of the circuit text says, and the number by which a line is refused (document 01, "The circuit text", "What is returned"):
 --   "within a line 2, 3, then 4, 5, 6"
+-- and of a bridge (document 02, note 8): "Turned away: 19 where I or J is above N or they do not rise, in the place of 5 and 6."
 -- A field that is no number, or is not there, counts as 0 where its value is asked; a line with a bad number is refused before that matters.
 use Prim.Native.Nat.{ℕ, suc, _-_}
-use mathlib.Core.Bool.{Bool, _&&_, _||_}
+use mathlib.Core.Bool.{Bool, cond, _&&_, _||_}
 use mathlib.Core.List.{List, [], _∷_}
 use lib.Dec.{eqb, leb, ltb}
 use lib.IntN.{pos}
-use Rattle.text.specs.Text.{bytesOf, fieldOf, fieldCount}
+use Rattle.text.specs.Text.{bytesOf, fieldOf, fieldCount, sameBytes}
 use Rattle.kinds.specs.declared.Kind.{Kind}
 use Rattle.kinds.specs.declared.Kind.the-variants.{And, Or, Nand, Nor, Xor, Xnor, Not}
 use Rattle.fields.specs.Fields.{fits, inRange, isLine, unless, valueAt}
 use Rattle.kinds.specs.Kinds.{isKind, kindOf}
+use Rattle.statements.specs.Items.{free, noBridge}
 use Rattle.statements.specs.declared.Fault.{Fault}
 use Rattle.statements.specs.declared.Gate.{Gate}
 use Rattle.statements.specs.declared.Head.{Head}
@@ -28,6 +30,9 @@ outputWord = bytesOf "output"
 
 abbrev pub faultWord : List ℕ
 faultWord = bytesOf "fault"
+
+abbrev pub bridgeWord : List ℕ
+bridgeWord = bytesOf "bridge"
 
 -- "`circuit,N,G,M,Q,K`: N inputs (1 to 8), G gates (0 to 48), M outputs (1 to 4), Q faults (1 to 32), cap K (1 to 4)"
 unfoldable pub isHead : List ℕ → Bool
@@ -115,7 +120,34 @@ unfoldable pub pairAt : List ℕ → ℕ → Pair
 pairAt l k = record { line = valueAt l k; value = eqb (valueAt l (suc k)) 1 }
 
 unfoldable pub faultOf : List ℕ → Fault
-faultOf l = record { first = pairAt l 1; second = pairAt l 3; third = pairAt l 5 }
+faultOf l = record { first = pairAt l 1; second = pairAt l 3; third = pairAt l 5; bridge = noBridge }
+
+-- "A fault line may read `bridge,I,J` with inputs I below J (3 outside 1 to 56)."
+unfoldable pub isBridge : List ℕ → Bool
+isBridge l = isLine l bridgeWord 1 3
+
+unfoldable pub bridgeFits : List ℕ → Bool
+bridgeFits l = fits l 1 1 56 && fits l 2 1 56
+
+-- neither I nor J is above N, and they rise
+unfoldable pub inputsRise : ℕ → List ℕ → Bool
+inputsRise inputs l = (leb (valueAt l 1) inputs && leb (valueAt l 2) inputs) && ltb (valueAt l 1) (valueAt l 2)
+
+unfoldable pub bridgeRefusal : ℕ → List ℕ → ℕ
+bridgeRefusal inputs l = unless (isBridge l) 2 (unless (bridgeFits l) 3 (unless (inputsRise inputs l) 19 0))
+
+unfoldable pub bridgeOf : List ℕ → Fault
+bridgeOf l = record { first = free; second = free; third = free; bridge = record { first = valueAt l 1; second = valueAt l 2 } }
+
+-- a fault line of either kind: its word says which
+unfoldable pub namesBridge : List ℕ → Bool
+namesBridge l = sameBytes (fieldOf l 0) bridgeWord
+
+unfoldable pub faultLineRefusal : ℕ → ℕ → List ℕ → ℕ
+faultLineRefusal inputs top l = cond (namesBridge l) (bridgeRefusal inputs l) (faultRefusal top l)
+
+unfoldable pub faultLineOf : List ℕ → Fault
+faultLineOf l = cond (namesBridge l) (bridgeOf l) (faultOf l)
 
 -- The tests of a line with their numbers, in no order that matters: the number of a line is the least of one that fails (proofs/LineNumbers).
 abbrev pub headTests : List ℕ → List (ℕ × Bool)
@@ -129,3 +161,6 @@ outputTests top l = (2, isOutput l) ∷ (3, outputFits l) ∷ (5, leb (valueAt l
 
 abbrev pub faultTests : ℕ → List ℕ → List (ℕ × Bool)
 faultTests top l = (2, isFault l) ∷ (3, faultFits l) ∷ (5, linesExist top l) ∷ (6, linesRise l) ∷ []
+
+abbrev pub bridgeTests : ℕ → List ℕ → List (ℕ × Bool)
+bridgeTests inputs l = (2, isBridge l) ∷ (3, bridgeFits l) ∷ (19, inputsRise inputs l) ∷ []

@@ -1,4 +1,4 @@
-// What one line of the circuit text says, with the number by which it is refused, or 0.
+// What one line of the circuit text says, with the number by which it is refused, or 0. A table's fault lines are read here too.
 //
 // A line's numbers are read once, all its tests are made on them, and the first that fails gives the number. What a line says counts only where
 // all pass.
@@ -7,7 +7,7 @@ use kinds::Kind;
 ghost use mathlib.Core.Path.{_≡_};
 ghost use Prim.Native.Nat.{suc, _≤_};
 ghost use Rattle.fields.specs.Fields.{valueAt};
-ghost use Rattle.statements.specs.Lines.{headRefusal, headOf, secondFits, gateRefusal, gateOf, outputRefusal, outputOf, isFault, pairInRange, faultRefusal, faultOf};
+ghost use Rattle.statements.specs.Lines.{headRefusal, headOf, secondFits, gateRefusal, gateOf, outputRefusal, outputOf, isFault, pairInRange, faultRefusal, faultOf, bridgeRefusal, bridgeOf, faultLineRefusal, faultLineOf};
 
 // A gate and the lines that it reads; `b` is 0 for `not`.
 pub struct Gate {
@@ -28,11 +28,18 @@ pub struct Pair {
     pub value: bool,
 }
 
-// One to three stuck lines, which hold together.
+// Two inputs that are joined; 0 and 0 where there is no bridge.
+pub struct Bridge {
+    pub first: u16,
+    pub second: u16,
+}
+
+// One to three stuck lines, which hold together, or one bridge.
 pub struct Fault {
     pub first: Pair,
     pub second: Pair,
     pub third: Pair,
+    pub bridge: Bridge,
 }
 
 // The numbers of the first line.
@@ -165,7 +172,8 @@ fn pair_in_range(absent: bool, p: PairFields) -> bool
     absent | (fields::in_range(p.line, 1, 56) & fields::in_range(p.value, 0, 1))
 }
 
-pub fn fault_line(top: usize, line: &[u8]) -> FaultLine
+// A fault of stuck lines.
+fn fault_line(top: usize, line: &[u8]) -> FaultLine
     ensures { λ r. ⌜ (r .number ≡ faultRefusal top (now (line .entry))) × (r .fault ≡ faultOf (now (line .entry))) ⌝ }
 {
     let fields = text::fields(line);
@@ -199,6 +207,47 @@ pub fn fault_line(top: usize, line: &[u8]) -> FaultLine
                 line: c.line,
                 value: c.value == 1,
             },
+            bridge: Bridge {
+                first: 0,
+                second: 0,
+            },
         },
     }
+}
+
+// A bridge of two inputs.
+fn bridge_line(inputs: usize, line: &[u8]) -> FaultLine
+    ensures { λ r. ⌜ (r .number ≡ bridgeRefusal inputs (now (line .entry))) × (r .fault ≡ bridgeOf (now (line .entry))) ⌝ }
+{
+    let i = fields::value_at(line, 1);
+    let j = fields::value_at(line, 2);
+    let formed = fields::is_line(line, b"bridge", 1, 3);
+    let fit = fields::in_range(i, 1, 56) & fields::in_range(j, 1, 56);
+    let rise = ((i as usize) <= inputs) & ((j as usize) <= inputs) & (i < j);
+    let free = Pair {
+        line: 0,
+        value: false,
+    };
+    FaultLine {
+        number: number_unless(formed, 2, number_unless(fit, 3, number_unless(rise, 19, 0))),
+        fault: Fault {
+            first: free,
+            second: free,
+            third: free,
+            bridge: Bridge {
+                first: i,
+                second: j,
+            },
+        },
+    }
+}
+
+// A fault line of either kind, of a text of so many inputs whose last line is `top`.
+pub fn fault_or_bridge(inputs: usize, top: usize, line: &[u8]) -> FaultLine
+    ensures { λ r. ⌜ (r .number ≡ faultLineRefusal inputs top (now (line .entry))) × (r .fault ≡ faultLineOf (now (line .entry))) ⌝ }
+{
+    if text::same(text::field(line, 0), b"bridge") {
+        return bridge_line(inputs, line);
+    }
+    fault_line(top, line)
 }

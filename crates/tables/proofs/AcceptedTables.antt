@@ -10,9 +10,9 @@ use native.Mathlib.Omega.{arith}
 use lib.ListN.{length}
 use Rattle.text.specs.Text.{before, after, lineEnd}
 use Rattle.statements.specs.Items.{sound}
-use Rattle.statements.specs.Lines.{faultOf}
+use Rattle.statements.specs.Lines.{faultLineOf}
 use Rattle.sections.specs.FaultLines.{faultLine, nthFaultRefusal}
-use Rattle.sections.proofs.FaultsWritten.{fault-only}
+use Rattle.sections.proofs.BridgesWritten.{fault-only}
 use Rattle.sections.proofs.LinesOnly.{line-taken, lines-only}
 use Rattle.tables.specs.TableLines.{tableHeadRefusal, tableHeadOf, markRefusal}
 use Rattle.tables.specs.TableParsing.{acceptedTable, tableFaultsIn, tableOf}
@@ -30,7 +30,7 @@ module _ (h : TableHead) (t : TruthTable) (rest : List ℕ) (b : TableRead h res
   unfolding tableFaultsIn
   table-body-only =
       let m = line-taken (markRefusal (h .inputs)) rest (b .marks-pass) in
-      let f = lines-only (nthFaultRefusal (h .inputs)) faultOf faultLine sound (λ j. fault-only (h .inputs)) (h .faults) 3 (after lineEnd rest) (t .faults) [] (b .faults-read) in (
+      let f = lines-only (nthFaultRefusal (h .inputs) (h .inputs)) faultLineOf faultLine sound (λ j. fault-only (h .inputs) (h .inputs)) (h .faults) 3 (after lineEnd rest) (t .faults) [] (b .faults-read) in (
         rw (f .0, b .inputs-are, b .cap-is),
         m .0 ∙ ap₂ _++_ (marks-only (h .inputs) (before lineEnd rest) t (m .1) (b .marks-read)) (f .1 ∙ append-nil (tableFaultsText t)),
       )

@@ -15,14 +15,14 @@ use Rattle.text.specs.Text.{before, after, hasByte, lineEnd}
 use Rattle.integer.specs.ListTests.{Below}
 use Rattle.integer.proofs.Bools.{both}
 use Rattle.statements.specs.Items.{sound}
-use Rattle.statements.specs.Lines.{faultOf}
+use Rattle.statements.specs.Lines.{faultLineOf}
 use Rattle.statements.specs.declared.Fault.{Fault}
 use Rattle.fields.specs.Fields.{fits}
 use Rattle.fields.proofs.Chains.{unless-passed}
 use Rattle.fields.proofs.PlainLines.{fits-range}
 use Rattle.sections.specs.Sections.{Read, items, lineRefused, lineRefusal}
 use Rattle.sections.specs.FaultLines.{nthFaultRefusal}
-use Rattle.sections.proofs.FaultsRight.{fault-right}
+use Rattle.sections.proofs.BridgesWritten.{fault-right}
 use Rattle.sections.proofs.LinesDue.{line-answered, text-answered}
 use Rattle.sections.proofs.LinesRead.{lines-said}
 use Rattle.tables.specs.TableLines.{isTableHead, tableHeadFits, tableHeadRefusal, tableHeadOf, oneMark, freeMark, doubledMark, allMarks, markRefusal, marksOf}
@@ -125,7 +125,7 @@ table-body-right : (h : TableHead) → TableHeadRight h → (rest : List ℕ) (t
 unfolding tableFaultsIn
 table-body-right h right rest t b =
     let m = marks-fit (h .inputs) (before lineEnd rest) (unless-passed (hasByte lineEnd rest) 2 _ (lit≤ tt) (b .marks-pass) .1) in
-    let f = lines-said (nthFaultRefusal (h .inputs)) faultOf sound (h .faults) 3 (after lineEnd rest) [] (t .faults) [] (λ j k. absurd (omega arith)) (b .faults-read) in
+    let f = lines-said (nthFaultRefusal (h .inputs) (h .inputs)) faultLineOf sound (h .faults) 3 (after lineEnd rest) [] (t .faults) [] (λ j k. absurd (omega arith)) (b .faults-read) in
     record {
       inputs-low = omega (arith, right .inputs-low, b .inputs-are);
       inputs-high = omega (arith, right .inputs-high, b .inputs-are);
@@ -135,7 +135,7 @@ table-body-right h right rest t b =
       faults-high = omega (arith, right .faults-high, f .1);
       cap-low = omega (arith, right .cap-low, b .cap-is);
       cap-high = omega (arith, right .cap-high, b .cap-is);
-      faults-right = λ j k. let s = f .0 j k in rw (b .inputs-are, s .is) (fault-right (h .inputs) (s .line) (s .passes));
+      faults-right = λ j k. let s = f .0 j k in rw (b .inputs-are, s .is) (fault-right (h .inputs) (h .inputs) (s .line) (s .passes));
     }
 
 -- the first line passes, and the lines after it are read

@@ -15,7 +15,7 @@ use borrow.Author.Tests.{lt-ltb, le-ltb, eq-eqb, ne-eqb}
 use Rattle.text.specs.Text.{textBytes, indexOf, before, lineEnd, fieldOf, sameBytes}
 use Rattle.text.proofs.Parts.{cut-before, cut-after, cut-has, cut-none}
 use Rattle.fields.specs.Fields.{unless}
-use Rattle.statements.specs.Lines.{faultOf}
+use Rattle.statements.specs.Lines.{faultLineOf}
 use Rattle.sections.specs.FaultLines.{nthFaultRefusal}
 use Rattle.sections.proofs.LineLoops.{Stage, stage-refused, stage-read}
 use Rattle.tables.specs.TableLines.{tableWord, isTable, tableHeadRefusal, tableHeadOf, markRefusal, marksOf}
@@ -35,7 +35,7 @@ table-told text {e} cut f said = said ∙ ap (λ (l : List ℕ). sameBytes l tab
 
 -- the fault lines, after the marks
 abbrev pub TableFaults : TableHead → List ℕ → ℕ → Type 0
-TableFaults h text from = Stage (nthFaultRefusal (h .inputs)) faultOf text from 3 (h .faults)
+TableFaults h text from = Stage (nthFaultRefusal (h .inputs) (h .inputs)) faultLineOf text from 3 (h .faults)
 
 -- the mark line from `from` on ends at e
 module _ (h : TableHead) (text : List ℕ) (from : ℕ) {e : ℕ} (cut : e ≡ from + indexOf lineEnd (drop from text)) where

@@ -22,12 +22,13 @@ use Rattle.fields.proofs.Chains.{unless-passed}
 use Rattle.fields.proofs.JoinedLines.{line-ended}
 use Rattle.fields.proofs.PlainLines.{plain-value}
 use Rattle.statements.specs.LineForms.{lineFrom}
-use Rattle.statements.specs.Lines.{faultWord, faultRefusal, faultOf}
+use Rattle.statements.specs.Lines.{faultWord, faultRefusal, faultOf, faultLineRefusal, faultLineOf}
 use Rattle.statements.specs.declared.Fault.{Fault}
 use Rattle.statements.specs.declared.Pair.{Pair}
-use Rattle.sections.specs.FaultLines.{Above, FaultRight, pairWritten, faultLine}
+use Rattle.sections.specs.FaultLines.{Above, StuckFault, FaultRight, pairWritten, stuckLine, faultLine}
 use Rattle.sections.proofs.FaultsRight.{free-line}
-use Rattle.sections.proofs.FaultsWritten.{fault-told}
+use Rattle.sections.proofs.BridgesWritten.{fault-told}
+use Rattle.sections.proofs.FaultsWritten.{stuck-told}
 use Rattle.sections.proofs.LinesWritten.{Told}
 use Rattle.tables.specs.TableForms.{markFor}
 use Rattle.tables.specs.TableLines.{tableWord, isTableHead, tableHeadRefusal, tableHeadOf, allMarks, markRefusal, marksOf}
@@ -155,14 +156,14 @@ pair-short s h = go (eqb (s .line) 0)
           natural-length 0 value (bit (s .value)),
         )
 
-module _ (top : ℕ) (f : Fault) (most : top ≤ 8) (r : FaultRight top f) where
+module _ (top : ℕ) (f : Fault) (most : top ≤ 8) (r : StuckFault top f) where
   above-low : (last : ℕ) (s : Pair) → Above last top s → s .line ≤ 8
   above-low last s (inl none) = omega (arith, free-line none)
   above-low last s (inr some) = omega (arith, some .1)
 
-  input-fault-short : length (faultLine f) ≤ 18
-  unfolding faultLine
-  input-fault-short =
+  stuck-inputs-short : length (stuckLine f) ≤ 18
+  unfolding stuckLine
+  stuck-inputs-short =
       let a = pairWritten (f .first) in
       let b = pairWritten (f .second) in
       let c = pairWritten (f .third) in
@@ -176,7 +177,10 @@ module _ (top : ℕ) (f : Fault) (most : top ≤ 8) (r : FaultRight top f) where
         pair-short (f .third) (above-low (f .second .line) (f .third) (r .third)),
       )
 
-  pub input-fault-told : Told 18 (faultRefusal top) faultOf (faultLine f) f
-  input-fault-told =
-      let t = fault-told top f (omega arith) r in
-      record { word = t .word; numbers = t .numbers; is = t .is; one-line = t .one-line; passes = t .passes; says = t .says; short = omega (arith, ap length (t .is), input-fault-short) }
+  stuck-inputs-told : Told 18 (faultRefusal top) faultOf (stuckLine f) f
+  stuck-inputs-told =
+      let t = stuck-told top f (omega arith) r in
+      record { word = t .word; numbers = t .numbers; is = t .is; one-line = t .one-line; passes = t .passes; says = t .says; short = omega (arith, ap length (t .is), stuck-inputs-short) }
+
+pub input-fault-told : (top : ℕ) (f : Fault) → top ≤ 8 → FaultRight top top f → Told 18 (faultLineRefusal top top) faultLineOf (faultLine f) f
+input-fault-told top f most = fault-told 18 top top f (omega arith) (omega arith) (stuck-inputs-told top f most)

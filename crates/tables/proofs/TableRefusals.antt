@@ -1,7 +1,7 @@
 -- How a table's text is answered, by its lines:
 --   table-one-exactly, table-line-exactly, table-seven-exactly    refused by 1, by a line's number and by 7, each exactly where it holds, at that place
 --   table-none-exactly                                            accepted exactly where none of them applies
---   table-refused                                                 by 1 at place 0, or by 2, 3, 5, 6, 7 or 15 at a line from 1 to 35; table-number-some: never by 0
+--   table-refused                                                 by 1 at place 0, or by 2, 3, 5, 6, 7, 15 or 19 at a line from 1 to 35; table-number-some: never by 0
 use mathlib.Core.Path.{_≡_, refl, sym, ap, ap₂, _∙_, subst}
 use mathlib.Core.Bool.{Bool, true, false, cond}
 use mathlib.Core.List.{List, [], _∷_}
@@ -16,9 +16,9 @@ use borrow.Author.Tests.{eqb-true, lt-ltb, ne-eqb}
 use Rattle.text.specs.Text.{textBytes, before, after, hasByte, lineEnd}
 use Rattle.fields.specs.Fields.{Fails}
 use Rattle.fields.proofs.Chains.{unless-passed}
-use Rattle.statements.specs.Lines.{faultOf, faultTests, faultRefusal}
+use Rattle.statements.specs.Lines.{faultTests, faultRefusal, bridgeTests, bridgeRefusal, namesBridge, faultLineRefusal, faultLineOf}
 use Rattle.statements.specs.declared.Fault.{Fault}
-use Rattle.statements.proofs.LineNumbers.{fault-least}
+use Rattle.statements.proofs.LineNumbers.{fault-least, bridge-least}
 use Rattle.sections.specs.Sections.{lineRefusal, linesFrom}
 use Rattle.sections.specs.FaultLines.{nthFaultRefusal}
 use Rattle.sections.proofs.LinesDue.{dueAt, DuePassing, FirstRefused, due-own, refused-next, due-read, refused-pass, refused-once, line-answered, text-answered}
@@ -46,14 +46,16 @@ line-low number place (inl e) = omega arith
 line-low number place (inr (inl e)) = omega arith
 line-low number place (inr (inr (inl e))) = omega arith
 line-low number place (inr (inr (inr (inl e)))) = omega arith
-line-low number place (inr (inr (inr (inr e)))) = omega (arith, e .0)
+line-low number place (inr (inr (inr (inr (inl e))))) = omega (arith, e .0)
+line-low number place (inr (inr (inr (inr (inr e))))) = omega arith
 
 line-not-seven : {X : Type 0} (number place : ℕ) → TableLineNumber number place → number ≡ 7 → X
 line-not-seven number place (inl e) s = absurd (omega arith)
 line-not-seven number place (inr (inl e)) s = absurd (omega arith)
 line-not-seven number place (inr (inr (inl e))) s = absurd (omega arith)
 line-not-seven number place (inr (inr (inr (inl e)))) s = absurd (omega arith)
-line-not-seven number place (inr (inr (inr (inr e)))) s = absurd (omega (arith, e .0))
+line-not-seven number place (inr (inr (inr (inr (inl e))))) s = absurd (omega (arith, e .0))
+line-not-seven number place (inr (inr (inr (inr (inr e))))) s = absurd (omega arith)
 
 module _ (l : List ℕ) where
   head-numbered : (place : ℕ) → Numbered (tableHeadRefusal l) place
@@ -71,11 +73,11 @@ module _ (l : List ℕ) where
       go : (n : ℕ) → (n ≡ 0) ⊎ Fails (markTests inputs l) n → Numbered n 2
       go n (inl z) = inl z
       go n (inr (inl f)) = inr (inl (sym (f .0)))
-      go n (inr (inr (inl f))) = inr (inr (inr (inr (inr (sym (f .0), refl)))))
+      go n (inr (inr (inl f))) = inr (inr (inr (inr (inr (inl (sym (f .0), refl))))))
       go n (inr (inr (inr none))) = absurd none
 
-  fault-numbered : (top place : ℕ) → Numbered (faultRefusal top l) place
-  fault-numbered top place = go (faultRefusal top l) (fault-least top l .given)
+  stuck-numbered : (top place : ℕ) → Numbered (faultRefusal top l) place
+  stuck-numbered top place = go (faultRefusal top l) (fault-least top l .given)
     where
       go : (n : ℕ) → (n ≡ 0) ⊎ Fails (faultTests top l) n → Numbered n place
       go n (inl z) = inl z
@@ -85,14 +87,32 @@ module _ (l : List ℕ) where
       go n (inr (inr (inr (inr (inl f))))) = inr (inr (inr (inr (inl (sym (f .0))))))
       go n (inr (inr (inr (inr (inr none))))) = absurd none
 
+  bridge-numbered : (inputs place : ℕ) → Numbered (bridgeRefusal inputs l) place
+  bridge-numbered inputs place = go (bridgeRefusal inputs l) (bridge-least inputs l .given)
+    where
+      go : (n : ℕ) → (n ≡ 0) ⊎ Fails (bridgeTests inputs l) n → Numbered n place
+      go n (inl z) = inl z
+      go n (inr (inl f)) = inr (inl (sym (f .0)))
+      go n (inr (inr (inl f))) = inr (inr (inl (sym (f .0))))
+      go n (inr (inr (inr (inl f)))) = inr (inr (inr (inr (inr (inr (sym (f .0)))))))
+      go n (inr (inr (inr (inr none)))) = absurd none
+
+  fault-numbered : (inputs top place : ℕ) → Numbered (faultLineRefusal inputs top l) place
+  unfolding faultLineRefusal
+  fault-numbered inputs top place = go (namesBridge l)
+    where
+      go : (b : Bool) → Numbered (cond b (bridgeRefusal inputs l) (faultRefusal top l)) place
+      go true = bridge-numbered inputs place
+      go false = stuck-numbered top place
+
 due-numbered : (h : TableHead) (k : ℕ) (l : List ℕ) → Numbered (tableDueRefusal h k l) (suc k)
 unfolding tableDueRefusal
 due-numbered h k l = go (eqb k 0) (eqb k 1) refl
   where
-    go : (a b : Bool) → eqb k 1 ≡ b → Numbered (cond a (tableHeadRefusal l) (cond b (markRefusal (h .inputs) l) (faultRefusal (h .inputs) l))) (suc k)
+    go : (a b : Bool) → eqb k 1 ≡ b → Numbered (cond a (tableHeadRefusal l) (cond b (markRefusal (h .inputs) l) (faultLineRefusal (h .inputs) (h .inputs) l))) (suc k)
     go true b e = head-numbered l (suc k)
     go false true e = let second : 2 ≡ suc k = omega (arith, eqb-true k 1 e) in subst (Numbered (markRefusal (h .inputs) l)) second (marks-numbered l (h .inputs))
-    go false false e = fault-numbered l (h .inputs) (suc k)
+    go false false e = fault-numbered l (h .inputs) (h .inputs) (suc k)
 
 -- the number of the text's line with k lines before it
 abbrev at : List ℕ → ℕ → ℕ
@@ -101,7 +121,7 @@ at text = dueAt (tableDueRefusal (tableHeadIn text)) text
 number-at : (text : List ℕ) (k : ℕ) → Numbered (at text k) (suc k)
 number-at text k = due-own (tableDueRefusal (tableHeadIn text)) text (λ (n : ℕ). Numbered n (suc k)) k (inr (inl refl)) (due-numbered (tableHeadIn text) k)
 
-fault-due : (h : TableHead) (j : ℕ) (l : List ℕ) → tableDueRefusal h (2 + j) l ≡ nthFaultRefusal (h .inputs) j l
+fault-due : (h : TableHead) (j : ℕ) (l : List ℕ) → tableDueRefusal h (2 + j) l ≡ nthFaultRefusal (h .inputs) (h .inputs) j l
 unfolding tableDueRefusal
 fault-due h j l = rw (ne-eqb (2 + j) 0 (λ z. omega arith), ne-eqb (2 + j) 1 (λ z. omega arith))
 
@@ -167,7 +187,7 @@ module _ (text : List ℕ) (few : length text ≤ textBytes) where
   in-faults : (marks : List ℕ) → Passing text 2 → Means text (onFaults (tableFaultsIn h (after lineEnd (after lineEnd text))) (λ faults end. tableEnd h marks faults end))
   unfolding tableFaultsIn
   in-faults marks passing =
-      due-read (tableDueRefusal h) text (nthFaultRefusal (h .inputs)) faultOf 2 (h .faults) 3 (omega arith) (omega arith) (λ j l k. fault-due h j l) (after lineEnd (after lineEnd text)) two-lines passing
+      due-read (tableDueRefusal h) text (nthFaultRefusal (h .inputs) (h .inputs)) faultLineOf 2 (h .faults) 3 (omega arith) (omega arith) (λ j l k. fault-due h j l) (after lineEnd (after lineEnd text)) two-lines passing
       (λ r. Means text (onFaults r (λ faults end. tableEnd h marks faults end)))
       (λ number place f. inr (inl (line-fails few f)))
       (ended marks)

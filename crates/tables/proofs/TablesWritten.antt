@@ -11,7 +11,7 @@ use lib.ListN.{length, getD, length-append}
 use borrow.Author.Tests.{le-ltb}
 use Rattle.text.specs.Text.{textBytes}
 use Rattle.statements.specs.Items.{sound}
-use Rattle.statements.specs.Lines.{faultOf}
+use Rattle.statements.specs.Lines.{faultLineOf}
 use Rattle.sections.specs.FaultLines.{faultLine, nthFaultRefusal}
 use Rattle.sections.specs.Sections.{eachLine}
 use Rattle.sections.proofs.LinesWritten.{told-has, told-before, told-after, lines-read, lines-short, Told}
@@ -34,7 +34,7 @@ abbrev pub tableFaultsText : TruthTable → List ℕ
 tableFaultsText t = eachLine faultLine sound (t .faults)
 
 module _ (t : TruthTable) (w : TableRight t) where
-  table-faults-told : (j : ℕ) → j < length (t .faults) → Told 18 (nthFaultRefusal (t .inputs) j) faultOf (faultLine (getD (t .faults) j sound)) (getD (t .faults) j sound)
+  table-faults-told : (j : ℕ) → j < length (t .faults) → Told 18 (nthFaultRefusal (t .inputs) (t .inputs) j) faultLineOf (faultLine (getD (t .faults) j sound)) (getD (t .faults) j sound)
   table-faults-told j h = input-fault-told (t .inputs) (getD (t .faults) j sound) (w .inputs-high) (w .faults-right j h)
 
   table-body-accepted : (rest : List ℕ) → rest ≡ tableFaultsText t ++ [] → tableBody (tableHeadWritten t) (markLine t ++ rest) ≡ acceptedTable t
@@ -48,7 +48,7 @@ module _ (t : TruthTable) (w : TableRight t) where
         told-after m rest,
         m .says,
         e,
-        lines-read (nthFaultRefusal (t .inputs)) faultOf faultLine sound (t .faults) table-faults-told 3 [],
+        lines-read (nthFaultRefusal (t .inputs) (t .inputs)) faultLineOf faultLine sound (t .faults) table-faults-told 3 [],
       )
 
   pub table-text-short : length (tableText t) ≤ tableBytes
@@ -64,7 +64,7 @@ module _ (t : TruthTable) (w : TableRight t) where
         h .short,
         ap length (m .is),
         m .short,
-        lines-short (nthFaultRefusal (t .inputs)) faultOf faultLine sound (t .faults) table-faults-told,
+        lines-short (nthFaultRefusal (t .inputs) (t .inputs)) faultLineOf faultLine sound (t .faults) table-faults-told,
         w .faults-high,
       )
 

@@ -7,7 +7,7 @@ use mathlib.Core.List.{List, []}
 use lib.Dec.{eqb, ltb}
 use lib.ListN.{length}
 use Rattle.text.specs.Text.{textBytes, before, after, lineEnd}
-use Rattle.statements.specs.Lines.{faultOf}
+use Rattle.statements.specs.Lines.{faultLineOf}
 use Rattle.statements.specs.declared.Fault.{Fault}
 use Rattle.sections.specs.Sections.{Read, items, lineRefused, lineRefusal, linesOf}
 use Rattle.sections.specs.FaultLines.{nthFaultRefusal}
@@ -25,9 +25,9 @@ abbrev pub onTable : {A : Type 0} → (TruthTable → A) → (ℕ → ℕ → A)
 onTable found refuse (acceptedTable t) = found t
 onTable found refuse (rejectedTable number place) = refuse number place
 
--- the fault lines begin at the text's third line; the last line that may be named is the last input
+-- the fault lines begin at the text's third line; the last line that may be stuck is the last input
 unfoldable pub tableFaultsIn : TableHead → List ℕ → Read Fault
-tableFaultsIn h rest = linesOf (nthFaultRefusal (h .inputs)) faultOf (h .faults) 3 rest []
+tableFaultsIn h rest = linesOf (nthFaultRefusal (h .inputs) (h .inputs)) faultLineOf (h .faults) 3 rest []
 
 abbrev pub onFaults : Read Fault → (List Fault → List ℕ → TableParse) → TableParse
 onFaults (items l rest) next = next l rest

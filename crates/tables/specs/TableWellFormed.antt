@@ -1,5 +1,5 @@
 -- What accepted tables satisfy, and no others (proofs/TablesWritten `table-accepted-exactly`): N 1 to 8, 2^N doubled marks of 0, 1 and 2, one to 32 faults of
--- one to three inputs each, which rise, and a cap from 1 to 4 (document 02, note 1).
+-- one to three inputs each, which rise, or bridges of two inputs that rise, and a cap from 1 to 4 (document 02, notes 1 and 8).
 use Prim.Native.Nat.{ℕ, _<_, _≤_, _^_}
 use mathlib.Core.Path.{_≡_}
 use lib.ListN.{length, getD}
@@ -17,4 +17,4 @@ pub record TableRight (t : TruthTable) : Type 0 where
   pub faults-high : length (t .faults) ≤ 32
   pub cap-low : 1 ≤ t .cap
   pub cap-high : t .cap ≤ 4
-  pub faults-right : (k : ℕ) → k < length (t .faults) → FaultRight (t .inputs) (getD (t .faults) k sound)
+  pub faults-right : (k : ℕ) → k < length (t .faults) → FaultRight (t .inputs) (t .inputs) (getD (t .faults) k sound)

@@ -1,9 +1,10 @@
-// The table as data, and the parser of its text with refusals 1, 2, 3, 5, 6, 7 and 15. What its rows are is the business of `lookup`.
+// The table as data, and the parser of its text with refusals 1, 2, 3, 5, 6, 7, 15 and 19. What its rows are is the business of `lookup`.
 mod parsing;
 
 pub use parsing::is_table;
 pub use parsing::no_table;
 pub use parsing::parse;
+use statements::Bridge;
 use statements::Fault;
 use statements::Pair;
 ghost use mathlib.Core.Path.{_≡_};
@@ -45,6 +46,10 @@ pub fn fault_at(t: Table, number: usize) -> Fault
             first: free,
             second: free,
             third: free,
+            bridge: Bridge {
+                first: 0,
+                second: 0,
+            },
         };
     }
     t.faults[number - 1]

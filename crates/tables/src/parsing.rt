@@ -3,6 +3,7 @@ use crate::ParsedTable;
 use crate::Table;
 use crate::TableHead;
 use fields::number_unless;
+use statements::Bridge;
 use statements::Fault;
 use statements::Pair;
 ghost use mathlib.Core.Path.{_≡_};
@@ -102,6 +103,10 @@ pub fn no_table() -> Table
         first: free,
         second: free,
         third: free,
+        bridge: Bridge {
+            first: 0,
+            second: 0,
+        },
     };
     Table {
         head: TableHead {
@@ -138,7 +143,7 @@ fn body(text: &[u8], from: usize, head: TableHead) -> ParsedTable
     if m.number != 0 {
         return refused(m.number, 2);
     }
-    let f = sections::faults(text, end + 1, head.inputs, head.faults, 3);
+    let f = sections::faults(text, end + 1, head.inputs, head.inputs, head.faults, 3);
     if f.number != 0 {
         return refused(f.number, f.place);
     }

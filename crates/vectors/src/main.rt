@@ -6,10 +6,11 @@
 //
 //     call         list          first                second  due
 //     coefficient  rows          label                        `answer,NUMBER,PLACE,COEFFICIENT`
-//     spectrum     rows                                       `answer,NUMBER,PLACE` and, as in the next four, `left` with the whole lent
+//     spectrum     rows                                       `answer,NUMBER,PLACE` and, as in the next five, `left` with the whole lent
 //     rows         coefficients                               result afterwards; before, it held -99999999 throughout
 //     stuck        coefficients  inputs               values
 //     opened       coefficients  values
+//     bridged      coefficients  two inputs
 //     circuit                    fault
 //     plan                                                    `answer,NUMBER,PLACE,SIZE` and four labels
 //     report                                                  the report; nothing where the number is 8
@@ -18,11 +19,9 @@
 //     field                      number               start   the field
 //
 // A case whose head is damaged or that is cut differs.
-mod lists;
-mod texts;
-
 use cases::heads::Call;
 use cases::heads::CaseHead;
+use cases::numbers::argument;
 use libc::STDIN_FILENO;
 use libc::STDOUT_FILENO;
 ghost use Prim.Native.Nat.{_≤_};
@@ -43,14 +42,6 @@ fn one(list: &[i32]) -> i32 {
     list[0]
 }
 
-// Argument i, from 0.
-fn argument(arguments: &[u32], i: usize) -> u32 {
-    if arguments.len() <= i {
-        return 0;
-    }
-    arguments[i]
-}
-
 // Whether the call's answer is what is due.
 fn call_holds(
     h: CaseHead,
@@ -67,13 +58,13 @@ fn call_holds(
     let last = argument(second, 0);
     match call {
         Call::Unknown => false,
-        Call::Coefficient => lists::coefficient_holds(list, x, due),
-        Call::Plan => texts::plan_holds(text, h.work, due),
-        Call::Report => texts::report_holds(text, h.room, h.work, due),
-        Call::Reading => texts::reading_holds(text, x, y, one(list), last, due),
-        Call::Pair => texts::pair_holds(text, x, y, z, three(list), last, due),
-        Call::Field => texts::field_holds(text, x as usize, last as usize, due),
-        _ => lists::lent_holds(call, text, list, first, second, x, h.room, due),
+        Call::Coefficient => list_calls::coefficient_holds(list, x, due),
+        Call::Plan => text_calls::plan_holds(text, h.work, due),
+        Call::Report => text_calls::report_holds(text, h.room, h.work, due),
+        Call::Reading => text_calls::reading_holds(text, x, y, one(list), last, due),
+        Call::Pair => text_calls::pair_holds(text, x, y, z, three(list), last, due),
+        Call::Field => text_calls::field_holds(text, x as usize, last as usize, due),
+        _ => list_calls::lent_holds(call, text, list, first, second, h.room, due),
     }
 }
 

@@ -1,9 +1,9 @@
 //! Both implementations side by side on texts: each call is compared, and what
 //! came is counted.
 
-use crate::calls::{self, library_plan, refused};
+use crate::calls::{self, library_circuit, library_plan, refused};
 use crate::lent::{surround, Shown};
-use crate::library::Signature;
+use crate::library::{self, Signature};
 use crate::outcomes::Outcomes;
 use second::circuits::{with_line, Draft};
 use second::devices;
@@ -11,6 +11,7 @@ use second::lines::TEXT_LIMIT;
 use second::plan::{CAP_LIMIT, WORKING_NUMBERS};
 use second::random::Random;
 use second::report::REPORT_ROOM;
+use second::table_texts::table_of;
 use std::collections::BTreeSet;
 
 /// Fault numbers that no text has, some of them 0 or 1 in fewer bits.
@@ -52,6 +53,44 @@ impl Both {
     pub fn circuit(&mut self, text: &[u8], fault: u32, room: usize) -> (u32, usize) {
         let texts = surround(&mut self.random, text);
         self.settle(texts, fault, room)
+    }
+
+    /// Every call on the text, with drawn fixed inputs; gives what the circuit
+    /// call gives.
+    pub fn every_call(&mut self, text: &[u8], fault: u32, room: usize) -> (u32, usize) {
+        let found = self.circuit(text, fault, room);
+        self.plan(text);
+        self.report(text);
+        let [mask, values] = [0; 2].map(|_| self.random.below(10) as u32);
+        calls::reading(&mut self.random, text, mask, values);
+        calls::pair(&mut self.random, text, fault, mask, values);
+        found
+    }
+
+    /// The circuit, the plan and the report call on a text that is refused at a
+    /// line: nothing is written but the report's refusal line. `next` is the
+    /// number after the last fault.
+    pub fn refused_with_all_kept(&mut self, text: &[u8], next: u32, due: (u32, usize)) {
+        for (fault, room) in [(0, 256), (1, 0), (next, 256), (u32::MAX, 0)] {
+            let mut out = vec![-7; room];
+            let reply = library::circuit(text, fault, &mut out);
+            assert_eq!((reply.number, reply.place), due, "{}", Shown(text));
+            assert!(out.iter().all(|&number| number == -7));
+            self.circuit(text, fault, room);
+        }
+        for working in [0, WORKING_NUMBERS - 1, WORKING_NUMBERS, 5_000] {
+            let mut work = vec![7; working];
+            assert_eq!(library::plan(text, &mut work), refused(due.0, due.1));
+            assert!(work.iter().all(|&number| number == 7));
+            self.plan_with(text, working);
+        }
+        let (mut out, mut work) = (vec![b'#'; 1_100], vec![7; 4_700]);
+        let bytes = library::report(text, &mut out, &mut work).bytes;
+        let line = format!("refused,{},{}\n", due.0, due.1);
+        assert_eq!(&out[..bytes], line.as_bytes());
+        assert!(out[bytes..].iter().all(|&byte| byte == b'#'));
+        assert!(work.iter().all(|&number| number == 7));
+        self.report(text);
     }
 
     /// Every fault of a good text; gives how many change its rows.
@@ -208,6 +247,32 @@ impl Both {
 
     pub fn report(&mut self, text: &[u8]) -> Vec<u8> {
         self.report_with(text, REPORT_ROOM, WORKING_NUMBERS)
+    }
+
+    /// Both calls with enough of everything.
+    pub fn plan_and_report(&mut self, text: &[u8]) -> Signature {
+        let found = self.plan(text);
+        self.report(text);
+        found
+    }
+
+    /// A circuit of one output of weight 1 whose faults name inputs only, and its
+    /// rows as a table: the plans are equal, the coefficients of the table twice
+    /// the others. The second implementation is asked for the report only.
+    pub fn table_of_circuit(&mut self, circuit: &Draft) {
+        let (once, twice) = (circuit.text(), table_of(circuit).text());
+        let found = library_plan(&twice);
+        assert_eq!(found, library_plan(&once), "{}", Shown(&once));
+        self.outcomes.note(found.number);
+        let length = 1 << circuit.sizes.inputs;
+        for fault in 0..=circuit.sizes.faults as u32 {
+            let due: Vec<i32> = library_circuit(&once, fault, length)
+                .into_iter()
+                .map(|coefficient| 2 * coefficient)
+                .collect();
+            assert_eq!(library_circuit(&twice, fault, length), due);
+        }
+        self.report(&twice);
     }
 
     /// The plans of a text with other caps, and with its faults in another order

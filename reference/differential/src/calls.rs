@@ -4,7 +4,7 @@
 
 use crate::lent::{lend_text, surround, Lent, Shown};
 use crate::library::{self, Signature, Written};
-use crate::outcomes::{answer, compare};
+use crate::outcomes::{answer, compare, written};
 use second::devices;
 use second::netlist::CIRCUIT_LIMIT;
 use second::plan::{self, CAP_LIMIT, WORKING_NUMBERS};
@@ -129,6 +129,24 @@ pub fn library_report(text: &[u8]) -> String {
     let found = library::report(text, &mut out, &mut vec![7; WORKING_NUMBERS]);
     assert_eq!(found.number, 0, "{}", Shown(text));
     String::from_utf8(out[..found.bytes].to_vec()).expect("plain text")
+}
+
+/// Asserts that the library's plan and report call refuse the text so.
+pub fn assert_refused(text: &[u8], (number, place): (u32, usize)) {
+    assert_eq!(
+        library_plan(text),
+        refused(number, place),
+        "{}",
+        Shown(text)
+    );
+    let line = format!("refused,{number},{place}\n");
+    assert_eq!(library_report(text), line, "{}", Shown(text));
+}
+
+/// The library's coefficients of a text, without the second implementation.
+pub fn library_circuit(text: &[u8], fault: u32, length: usize) -> Vec<i32> {
+    let case = format_args!("fault {fault} of {}", Shown(text));
+    written(case, length, |out| library::circuit(text, fault, out))
 }
 
 /// The cases of an answer, as the library numbers them.

@@ -190,7 +190,7 @@ mod tests {
     use second::circuits::{largest_report, worst_search, Draft, Sizes, Sketch};
     use second::random::Random;
     use second::reading::Reading;
-    use second::{plan, reading, report, table_texts, walsh};
+    use second::{bridge_texts, plan, reading, report, table_texts, walsh};
 
     #[test]
     fn equals_the_direct_sums() {
@@ -220,11 +220,12 @@ mod tests {
     fn circuits_and_tables_equal_the_direct_sums() {
         let mut random = Random::new(7);
         for round in 0..200 {
-            let draft = match round % 2 {
+            let draft = match round % 4 {
                 0 => {
                     let sizes = Sizes::draw(&mut random);
                     Draft::draw(&mut random, sizes)
                 }
+                1 => bridge_texts::draw_changing(&mut random, 2 + round / 4 % 7),
                 _ => table_texts::draw(&mut random, 1 + round / 2 % 8),
             };
             let (mut text, sizes) = (draft.text(), draft.sizes);
@@ -252,6 +253,7 @@ mod tests {
             let cap = random.pick(&[1, 2, 3, 4, 4, 4]);
             let draft = match round % 4 {
                 0 => table_texts::draw_blocks(&mut random, inputs).with_cap(cap),
+                1 => bridge_texts::draw_changing(&mut random, inputs).with_cap(cap),
                 _ => Sketch::draw(&mut random, inputs).draft(cap),
             };
             let draft = match draft.without_silent() {

@@ -107,6 +107,14 @@ mod exported {
             out: *mut i32,
             out_len: usize,
         ) -> Reply;
+        pub fn walsh_bridged(
+            coefficients: *const i32,
+            len: usize,
+            first: u32,
+            second: u32,
+            out: *mut i32,
+            out_len: usize,
+        ) -> Reply;
         pub fn walsh_circuit(
             text: *const u8,
             text_len: usize,
@@ -187,6 +195,20 @@ pub fn opened(coefficients: &[i32], values: &[u32], out: &mut [i32]) -> Reply {
             coefficients.len(),
             values.as_ptr(),
             values.len(),
+            out.as_mut_ptr(),
+            out.len(),
+        )
+    }
+}
+
+pub fn bridged(coefficients: &[i32], first: u32, second: u32, out: &mut [i32]) -> Reply {
+    // SAFETY: as for `spectrum`.
+    unsafe {
+        exported::walsh_bridged(
+            coefficients.as_ptr(),
+            coefficients.len(),
+            first,
+            second,
             out.as_mut_ptr(),
             out.len(),
         )

@@ -50,7 +50,7 @@ pub fn written(
 /// How often each number came back; index 0: done.
 #[derive(Default)]
 pub struct Outcomes {
-    seen: [usize; 16],
+    seen: [usize; 20],
 }
 
 impl Outcomes {

@@ -3,6 +3,7 @@
 //! every comparison. The text stands between bytes that would carry it on.
 
 use differential::both::{badly_written, with_every_byte, Both};
+use differential::calls::library_circuit;
 use differential::lent::{lend_text, surround, Shown};
 use differential::library::{self, Part};
 use differential::outcomes::written;
@@ -10,7 +11,7 @@ use second::circuits::{
     with_line, Draft, Sizes, DAMAGES, LISTING, SILENT_FAULT, STUCK_INNER_LINE, STUCK_INPUTS,
     TWO_OUTPUTS, TWO_STUCK_INPUTS,
 };
-use second::lines::{self, StuckLine, TEXT_LIMIT};
+use second::lines::{self, Fault, StuckLine, TEXT_LIMIT};
 use second::netlist::{self, Netlist, CIRCUIT_LIMIT};
 use second::random::Random;
 use second::walsh;
@@ -54,10 +55,7 @@ fn field(both: &mut Both, text: &[u8], number: usize) -> Part {
 
 /// The library's coefficients, without the second implementation.
 fn library_spectrum(text: &str, fault: u32, length: usize) -> Vec<i32> {
-    let case = format_args!("fault {fault} of {text}");
-    written(case, length, |out| {
-        library::circuit(text.as_bytes(), fault, out)
-    })
+    library_circuit(text.as_bytes(), fault, length)
 }
 
 // Faults from coefficients alone.
@@ -72,7 +70,7 @@ fn opened_rows(netlist: &Netlist, lines: &[StuckLine]) -> Vec<i32> {
             value: bits >> at & 1 == 1,
         });
         let opened = Netlist {
-            faults: vec![driven.collect()],
+            faults: vec![Fault::Stuck(driven.collect())],
             ..netlist.clone()
         };
         rows.extend(opened.rows(1).expect("fault 1"));
@@ -90,12 +88,8 @@ fn faults_of_circuits_from_coefficients_alone() {
         let netlist = netlist::parse(&text).expect("a good circuit");
         let length = 1 << netlist.inputs;
         let case = Shown(&text);
-        let under = |fault: u32| {
-            written(format_args!("fault {fault} of {case}"), length, |out| {
-                library::circuit(&text, fault, out)
-            })
-        };
-        for (lines, fault) in netlist.faults.iter().zip(1..) {
+        let under = |fault: u32| library_circuit(&text, fault, length);
+        for (lines, fault) in netlist.faults.iter().map(Fault::stuck).zip(1..) {
             let numbers: Vec<u32> = lines.iter().map(|stuck| stuck.line as u32).collect();
             let values: Vec<u32> = lines.iter().map(|stuck| stuck.value.into()).collect();
             let what = format_args!("fault {fault} of {case}");

@@ -7,6 +7,7 @@ use differential::both::Both;
 use differential::calls::{library_plan, library_report, of_labels, refused};
 use differential::lent::Shown;
 use differential::library;
+use second::bridge_texts;
 use second::circuits::{
     largest_report, near_labels, with_line, worst_search, Draft, Sizes, Sketch, DAMAGES, LISTING,
     SILENT_FAULT, TWO_OUTPUTS,
@@ -362,6 +363,15 @@ fn no_subset_goes_before_in_tables() {
 }
 
 #[test]
+fn no_subset_goes_before_under_bridges() {
+    let both = assert_no_subset_goes_before(24, |both, _, inputs| {
+        bridge_texts::draw_changing(&mut both.random, inputs)
+    });
+    both.outcomes.assert_seen(&[(0, 400), (14, 20)]);
+    both.assert_sizes([300, 50, 10, 1]);
+}
+
+#[test]
 fn labels_are_in_order_and_cover_each_fault() {
     let mut both = Both::new(SEED + 21);
     for round in 0..1500 {
@@ -686,6 +696,19 @@ fn reports_on_tables_agree_with_the_plan_and_the_circuit_call() {
         draw_changing(&mut both.random, inputs).with_cap(CAP_LIMIT)
     });
     both.outcomes.assert_seen(&[(0, 500)]);
+    assert!(
+        later > 300,
+        "faults not covered by the first label: {later}"
+    );
+}
+
+#[test]
+fn reports_under_bridges_agree_with_the_plan_and_the_circuit_call() {
+    let mut both = Both::new(SEED + 44);
+    let later = assert_reports_agree(&mut both, |both, inputs| {
+        bridge_texts::draw_changing(&mut both.random, inputs).with_cap(CAP_LIMIT)
+    });
+    both.outcomes.assert_seen(&[(0, 400)]);
     assert!(
         later > 300,
         "faults not covered by the first label: {later}"

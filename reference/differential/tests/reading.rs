@@ -7,6 +7,7 @@ use differential::calls::{self, Bits, Comparison, Measured, CONSTRAINED, PLAIN, 
 use differential::lent::Shown;
 use differential::library;
 use differential::outcomes::{written, Outcomes};
+use second::bridge_texts::{draw_circuit, with_bridges, BRIDGE_DAMAGES, LISTING_WITH_A_BRIDGE};
 use second::circuits::{
     with_line, Draft, Sizes, Sketch, DAMAGES, HALF_AND_A_ROW, LISTING, SILENT_FAULT,
     STUCK_INNER_LINE, STUCK_INPUTS, TWO_OUTPUTS, TWO_STUCK_INPUTS,
@@ -15,6 +16,7 @@ use second::lines::TEXT_LIMIT;
 use second::netlist;
 use second::random::Random;
 use second::reading::quotient;
+use second::walsh::bridged_rows;
 use std::collections::BTreeMap;
 
 const SEED: u64 = 0x5245_4144_494e_4700;
@@ -883,6 +885,148 @@ fn every_byte_of_the_listing_changed() {
     }
     both.outcomes
         .assert_seen(&[(0, 100), (2, 1000), (3, 50), (4, 20), (5, 10), (7, 2)]);
+}
+
+// Bridges.
+
+#[test]
+fn bridges_by_hand() {
+    // The rows 0, 0, 0, 1, 1, 1, 0, 1 become 0, 0, 0, 0, 0, 1, 0, 1. A mask and
+    // its values choose rows by their numbers, whatever the inputs show.
+    let text = LISTING_WITH_A_BRIDGE.as_bytes();
+    for (mask, values, due) in [
+        (0, 0, [0.5, 0.25, 0.25]),
+        (1, 0, [0.25, 0.0, 0.25]),
+        (1, 1, [0.75, 0.5, 0.25]),
+        (2, 0, [0.5, 0.25, 0.25]),
+        (4, 0, [0.25, 0.0, 0.25]),
+        (4, 4, [0.75, 0.5, 0.25]),
+        (5, 1, [0.5, 0.0, 0.5]),
+        (5, 4, [0.5, 0.0, 0.5]),
+        (5, 5, [1.0, 1.0, 0.0]),
+        (7, 3, [1.0, 0.0, 1.0]),
+        (7, 7, [1.0, 1.0, 0.0]),
+    ] {
+        assert_eq!(pair(text, 2, mask, values), due, "mask {mask}, {values}");
+    }
+    assert_eq!(value(text, 0, 0), 0.5);
+    // Both outputs show the AND: 5 on one row of four, for 2 and 3 on two each.
+    let outputs = b"circuit,2,0,2,1,1\noutput,1,2\noutput,2,3\nbridge,1,2\n";
+    assert_eq!(pair(outputs, 1, 0, 0), [2.5, 1.25, 1.25]);
+    assert_eq!(pair(outputs, 1, 1, 1), [3.5, 2.5, 1.0]);
+    assert_eq!(pair(outputs, 1, 3, 1), [2.0, 0.0, 2.0]);
+}
+
+#[test]
+fn every_fixture_of_small_circuits_with_bridges() {
+    let mut both = Both::new(40);
+    for round in 0..90 {
+        let inputs = 2 + round % 3;
+        let drawn = both.small(inputs, 1 + round % 7);
+        let draft = with_bridges(&mut both.random, &drawn);
+        both.all(&draft, &fixtures(inputs));
+    }
+    both.outcomes.assert_seen(&[(0, 10_000)]);
+    both.assert_kinds([20, 30, 2000]);
+    both.assert_signs([500, 2000, 500]);
+    both.assert_fixed(4, 300);
+}
+
+#[test]
+fn circuits_of_every_size_with_bridges() {
+    let mut both = Both::new(41);
+    for round in 0..200 {
+        let drawn = Sizes::draw(&mut both.random);
+        let inputs = 2 + round % 7;
+        let draft = draw_circuit(&mut both.random, Sizes { inputs, ..drawn });
+        let some = [0; 2].map(|_| both.fixture(inputs));
+        both.all(&draft, &some);
+    }
+    both.outcomes.assert_seen(&[(0, 5000)]);
+    both.assert_signs([500, 1000, 500]);
+    both.assert_fixed(8, 30);
+}
+
+/// The sound rows, by the numbers of rows with both inputs replaced, give the
+/// faulty readings of a bridge.
+#[test]
+fn readings_under_bridges_are_sums_of_bridged_rows() {
+    let mut both = Both::new(42);
+    let mut bridges = 0;
+    for round in 0..200 {
+        let drawn = Sizes::draw(&mut both.random);
+        let inputs = 2 + round % 7;
+        let text = draw_circuit(&mut both.random, Sizes { inputs, ..drawn }).text();
+        let netlist = netlist::parse(&text).expect("a good circuit");
+        let sound = netlist.rows(0).expect("fault 0");
+        for (fault, number) in netlist.faults.iter().zip(1..) {
+            let Some((first, second)) = fault.bridge() else {
+                continue;
+            };
+            let (mask, values) = both.fixture(inputs);
+            let (sum, count) = whole(&sound, mask, values);
+            let (faulty, _) = whole(&bridged_rows(&sound, first, second), mask, values);
+            let due = [sum, faulty, sum - faulty].map(|sum| Bits::of(f64::from(sum)));
+            let found = pair(&text, number, mask, values);
+            let found = found.map(|value| Bits::of(value * f64::from(count)));
+            assert_eq!(found, due, "fault {number} of {}", Shown(&text));
+            bridges += 1;
+        }
+    }
+    assert!(bridges > 1500, "{bridges} bridges");
+}
+
+/// 19 at its line, before all that is wrong with the arguments.
+#[test]
+fn refused_bridges() {
+    let mut both = Both::new(43);
+    for (line, number) in [
+        ("bridge,1,2,3", 2),
+        ("bridge,57,1", 3),
+        ("bridge,2,2", 19),
+        ("bridge,3,1", 19),
+        ("bridge,1,4", 19),
+        ("bridge,7,8", 19),
+    ] {
+        for place in [7, 8] {
+            let text = with_line(LISTING_WITH_A_BRIDGE, place, line);
+            for (fault, mask, values) in [(1, 0, 0), (2, 5, 4), (0, 8, 9), (9, u32::MAX, 0)] {
+                let found = both.reading(&text, mask, values);
+                assert_eq!(found, Measured::refused(number, place), "{line}");
+                let found = both.pair(&text, fault, mask, values);
+                assert_eq!(found, Comparison::refused(number, place), "{line}");
+            }
+        }
+    }
+    both.outcomes.assert_seen(&[(2, 16), (3, 16), (19, 64)]);
+}
+
+#[test]
+fn damaged_circuits_with_bridges() {
+    let mut both = Both::new(44);
+    for round in 0..600 {
+        let drawn = Sizes::draw(&mut both.random);
+        let inputs = 1 + round % 8;
+        let draft = draw_circuit(&mut both.random, Sizes { inputs, ..drawn });
+        for damage in &BRIDGE_DAMAGES {
+            let text = (damage.apply)(&mut both.random, &draft);
+            let (mask, values) = both.fixture(inputs);
+            both.reading(&text, mask, values);
+            let fault = both.random.below(draft.sizes.faults + 2) as u32;
+            both.pair(&text, fault, mask, values);
+        }
+    }
+    both.outcomes.assert_seen(&[
+        (0, 100),
+        (2, 1500),
+        (3, 500),
+        (4, 5),
+        (5, 5),
+        (6, 1),
+        (7, 0),
+        (12, 5),
+        (19, 2500),
+    ]);
 }
 
 // What follows from the definitions.

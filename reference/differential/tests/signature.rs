@@ -2,6 +2,10 @@
 //! report on standard output, and on standard error only what could not be read
 //! or written. The gate has built it before these tests run.
 
+use second::bridge_texts::{
+    draw_changing as draw_bridged, BRIDGED_TABLE, BRIDGE_DAMAGES, LISTING_WITH_A_BRIDGE,
+    SILENT_BRIDGE,
+};
 use second::circuits::{with_line, Damage, Draft, Sizes, DAMAGES, LISTING};
 use second::lines::TEXT_LIMIT;
 use second::plan::WORKING_NUMBERS;
@@ -101,6 +105,32 @@ fn small_tables() {
             let written = run(&pieces, Duration::from_millis(1));
             assert_eq!(String::from_utf8_lossy(&written), due, "{text}");
         }
+    }
+}
+
+#[test]
+fn texts_with_bridges() {
+    for (text, due) in [
+        (
+            LISTING_WITH_A_BRIDGE,
+            "plan,1\nlabel,3,2\nfault,1,3,0\nfault,2,3,0\n",
+        ),
+        (SILENT_BRIDGE, "refused,13,1\n"),
+        (
+            BRIDGED_TABLE,
+            "plan,1\nlabel,2,6\nfault,1,2,4\nfault,2,2,2\nfault,3,2,2\n",
+        ),
+    ] {
+        let written = run(&[text.as_bytes()], Duration::ZERO);
+        assert_eq!(String::from_utf8_lossy(&written), due, "{text}");
+    }
+    let mut random = Random::new(SEED + 2);
+    for round in 0..48 {
+        let draft = draw_bridged(&mut random, 2 + round % 5);
+        assert_reports_at_once("drawn", &draft.text());
+        let damage = &BRIDGE_DAMAGES[round % BRIDGE_DAMAGES.len()];
+        let text = (damage.apply)(&mut random, &draft);
+        assert_reports_at_once(damage.name, &text);
     }
 }
 
@@ -230,7 +260,7 @@ fn a_failed_read_ends_the_input() {
 }
 
 /// What docs/FORMAT.md names as the usual causes of a refusal, each made in the
-/// listing.
+/// listing or in the small table.
 #[test]
 fn usual_causes_of_refusals() {
     let with = |place, line| with_line(LISTING, place, line);
@@ -324,6 +354,19 @@ fn usual_causes_of_refusals() {
             "a fault too few for a table",
             table(1, "table,2,3,1"),
             "2,5",
+        ),
+        ("a bridge of three inputs", with(7, "bridge,1,2,3"), "2,7"),
+        ("a bridge with a value", with(7, "bridge,1,2,0"), "2,7"),
+        ("a bridge in upper case", with(7, "Bridge,1,2"), "2,7"),
+        ("a bridge from input 0", with(7, "bridge,0,1"), "3,7"),
+        ("inputs not sorted", with(7, "bridge,3,1"), "19,7"),
+        ("an input with itself", with(7, "bridge,2,2"), "19,7"),
+        ("a bridge of a gate's line", with(8, "bridge,1,4"), "19,8"),
+        ("a bridge above N", table(3, "bridge,1,3"), "19,3"),
+        (
+            "a table's inputs not sorted",
+            table(4, "bridge,2,1"),
+            "19,4",
         ),
         (
             "a fault too many for a table",

@@ -2,6 +2,7 @@
 //! thread that has no more. One that did would end this program by a fault.
 
 use differential::library;
+use second::bridge_texts::every_bridge;
 use second::circuits::{largest_report, worst_search};
 use second::plan::WORKING_NUMBERS;
 use second::report::REPORT_ROOM;
@@ -30,6 +31,9 @@ fn calls_on_lists_within_64_kib() {
     let (list, mut out) = (spectrum.clone(), ones.clone());
     let stuck = move || library::stuck(&list, &[1, 2, 11], &[0, 1, 1], &mut out).number;
     assert_eq!(number(stuck), 0);
+    let (list, mut out) = (spectrum.clone(), ones.clone());
+    let bridged = move || library::bridged(&list, 1, 11, &mut out).number;
+    assert_eq!(number(bridged), 0);
     let (list, mut out) = (spectrum, ones.clone());
     let opened = move || library::opened(&list, &[0, 1, 1], &mut out).number;
     assert_eq!(number(opened), 0);
@@ -64,6 +68,23 @@ fn calls_on_circuits_within_64_kib() {
     let lent = text.clone();
     assert_eq!(number(move || library::reading(&lent, 0, 0).number), 0);
     assert_eq!(number(move || library::pair(&text, 32, 0, 0).number), 0);
+}
+
+/// The largest texts, 28 of whose 32 faults are every bridge of eight inputs.
+#[test]
+fn calls_on_bridges_within_64_kib() {
+    for (draft, due) in [(largest_report(), 13), (worst_search(), 0), (largest(), 0)] {
+        let mut faults = every_bridge(8);
+        faults.extend_from_slice(&draft.faults()[..4]);
+        faults.reverse();
+        let text = draft.with_faults(&faults, 4).text();
+        let (lent, mut out) = (text.clone(), vec![0; 256]);
+        let circuit = move || library::circuit(&lent, 32, &mut out).number;
+        assert_eq!(number(circuit), 0);
+        assert_eq!(planned(text.clone()), due);
+        let due = if draft.lines[0][0] == "table" { 2 } else { 0 };
+        assert_eq!(number(move || library::pair(&text, 32, 0, 0).number), due);
+    }
 }
 
 #[test]

@@ -3,18 +3,20 @@
 //! comparison. Then what follows from the change request without it.
 
 use differential::both::{badly_written, with_every_byte, Both};
-use differential::calls::{self, library_plan, library_report, of_labels, refused};
+use differential::calls::{
+    self, assert_refused, library_circuit, library_plan, library_report, of_labels, refused,
+};
 use differential::lent::Shown;
-use differential::library::{self, Reply};
-use differential::outcomes::{written, Outcomes};
+use differential::library;
+use differential::outcomes::Outcomes;
 use second::circuits::{fields, with_line, Damage, DAMAGES, LISTING};
-use second::lines::TEXT_LIMIT;
-use second::plan::{CAP_LIMIT, WORKING_NUMBERS};
+use second::lines::{Fault, TEXT_LIMIT};
+use second::plan::CAP_LIMIT;
 use second::random::Random;
 use second::table_texts::{
     draw, draw_blocks, draw_changing, draw_circuit, draw_with, draw_with_a_silent_input, largest,
-    table_of, with_labels, with_marks, ANOTHER_MARK, FIGURE, MARKS, MARK_DAMAGES, SHORT_MARKS,
-    SILENT_INPUT, SMALL,
+    with_labels, with_marks, ANOTHER_MARK, FIGURE, MARKS, MARK_DAMAGES, SHORT_MARKS, SILENT_INPUT,
+    SMALL,
 };
 use second::tables;
 
@@ -58,9 +60,7 @@ fn expect(both: &mut Both, text: &[u8], due: (u32, usize)) {
     let found = every_call(both, text, 0, 256);
     assert_eq!(found, due, "{}", Shown(text));
     if due.0 != 0 {
-        assert_eq!(library_plan(text), refused(due.0, due.1), "{}", Shown(text));
-        let line = format!("refused,{},{}\n", due.0, due.1);
-        assert_eq!(library_report(text), line, "{}", Shown(text));
+        assert_refused(text, due);
     }
 }
 
@@ -70,22 +70,16 @@ fn expect_line(both: &mut Both, text: &str, place: usize, line: &str, number: u3
     expect(both, &with_line(text, place, line), due);
 }
 
-/// The library's coefficients, without the second implementation.
-fn library_spectrum(text: &[u8], fault: u32, length: usize) -> Vec<i32> {
-    let case = format_args!("fault {fault} of {}", Shown(text));
-    written(case, length, |out| library::circuit(text, fault, out))
-}
-
 // Without the second implementation.
 
 #[test]
 fn examples_of_the_change_request() {
     let figure = [12, -2, 0, -2, 0, 6, 4, -2, -4, -6, 0, 2, -8, 2, -4, 2];
-    assert_eq!(library_spectrum(FIGURE.as_bytes(), 0, 16), figure);
+    assert_eq!(library_circuit(FIGURE.as_bytes(), 0, 16), figure);
     let small = SMALL.as_bytes();
-    assert_eq!(library_spectrum(small, 0, 4), [5, -3, -1, -1]);
-    assert_eq!(library_spectrum(small, 1, 4), [2, 0, -2, 0]);
-    assert_eq!(library_spectrum(small, 2, 4), [6, -2, 0, 0]);
+    assert_eq!(library_circuit(small, 0, 4), [5, -3, -1, -1]);
+    assert_eq!(library_circuit(small, 1, 4), [2, 0, -2, 0]);
+    assert_eq!(library_circuit(small, 2, 4), [6, -2, 0, 0]);
     assert_eq!(library_plan(small), of_labels(&[0]));
     assert_eq!(
         library_report(small),
@@ -109,7 +103,7 @@ fn coefficients_by_counting_marks() {
     for round in 0..240 {
         let draft = draw(&mut random, 1 + round % 8);
         let marks = draft.lines[1][0].as_bytes();
-        let found = library_spectrum(&draft.text(), 0, marks.len());
+        let found = library_circuit(&draft.text(), 0, marks.len());
         for (label, &coefficient) in found.iter().enumerate() {
             let mut due = 0;
             for (row, mark) in marks.iter().enumerate() {
@@ -137,8 +131,8 @@ fn faults_from_coefficients_alone() {
         let text = draw(&mut random, inputs).text();
         let table = tables::parse(&text).expect("a good table");
         let length = 1 << inputs;
-        let sound = library_spectrum(&text, 0, length);
-        for (stuck, fault) in table.faults.iter().zip(1..) {
+        let sound = library_circuit(&text, 0, length);
+        for (stuck, fault) in table.faults.iter().map(Fault::stuck).zip(1..) {
             let numbers: Vec<u32> = stuck.iter().map(|input| input.line as u32).collect();
             let values: Vec<u32> = stuck.iter().map(|input| input.value.into()).collect();
             let room = random.room(length);
@@ -161,20 +155,7 @@ fn tables_of_circuits() {
     for round in 0..400 {
         let drawn = draw_circuit(&mut both.random, 1 + round % 8);
         let circuit = drawn.without_silent().unwrap_or(drawn);
-        let table = table_of(&circuit);
-        let (once, twice) = (circuit.text(), table.text());
-        let found = library_plan(&twice);
-        assert_eq!(found, library_plan(&once), "{}", Shown(&once));
-        both.outcomes.note(found.number);
-        let length = 1 << circuit.sizes.inputs;
-        for fault in 0..=circuit.sizes.faults as u32 {
-            let due: Vec<i32> = library_spectrum(&once, fault, length)
-                .into_iter()
-                .map(|coefficient| 2 * coefficient)
-                .collect();
-            assert_eq!(library_spectrum(&twice, fault, length), due);
-        }
-        both.report(&twice);
+        both.table_of_circuit(&circuit);
     }
     both.outcomes.assert_seen(&[(0, 400), (13, 20), (14, 0)]);
 }
@@ -191,8 +172,7 @@ fn tables_of_every_size() {
             let text = draft.text();
             let found = both.circuit(&text, faults as u32 + 1, 1 << inputs);
             assert_eq!(found, (12, 0), "{}", Shown(&text));
-            both.plan(&text);
-            both.report(&text);
+            both.plan_and_report(&text);
         }
     }
     both.outcomes
@@ -284,8 +264,7 @@ fn tables_as_they_are_drawn() {
             _ => draw_blocks(&mut both.random, inputs),
         };
         let text = draft.text();
-        both.plan(&text);
-        both.report(&text);
+        both.plan_and_report(&text);
     }
     both.outcomes.assert_seen(&[(0, 800), (13, 200), (14, 20)]);
     both.assert_sizes([300, 20, 5, 0]);
@@ -297,8 +276,7 @@ fn tables_without_silent_faults() {
     let mut both = Both::new(SEED + 22);
     for round in 0..800 {
         let text = draw_changing(&mut both.random, 1 + round % 8).text();
-        both.plan(&text);
-        both.report(&text);
+        both.plan_and_report(&text);
     }
     both.outcomes.assert_seen(&[(0, 1000), (14, 60)]);
     both.assert_sizes([300, 60, 20, 3]);
@@ -433,26 +411,7 @@ fn another_mark_leaves_what_is_lent() {
             marks[at] = both.random.pick(b"2x, \r\0\xff");
             let text = with_marks(&draft.text(), &marks);
             let next = draft.sizes.faults as u32 + 1;
-            for (fault, room) in [(0, 256), (1, 0), (next, 256), (u32::MAX, 0)] {
-                let mut out = vec![-7; room];
-                let reply = library::circuit(&text, fault, &mut out);
-                let (number, place) = (15, 2);
-                assert_eq!(reply, Reply { number, place }, "{}", Shown(&text));
-                assert!(out.iter().all(|&number| number == -7));
-                both.circuit(&text, fault, room);
-            }
-            for working in [0, WORKING_NUMBERS - 1, WORKING_NUMBERS, 5_000] {
-                let mut work = vec![7; working];
-                assert_eq!(library::plan(&text, &mut work), refused(15, 2));
-                assert!(work.iter().all(|&number| number == 7));
-                both.plan_with(&text, working);
-            }
-            let (mut out, mut work) = (vec![b'#'; 1_100], vec![7; 4_700]);
-            let bytes = library::report(&text, &mut out, &mut work).bytes;
-            assert_eq!(&out[..bytes], b"refused,15,2\n");
-            assert!(out[bytes..].iter().all(|&byte| byte == b'#'));
-            assert!(work.iter().all(|&number| number == 7));
-            both.report(&text);
+            both.refused_with_all_kept(&text, next, (15, 2));
         }
     }
     both.outcomes.assert_seen(&[(15, 1400)]);

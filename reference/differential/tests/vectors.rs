@@ -4,6 +4,7 @@
 //! case that is not as it should be; the gate has built it before these tests.
 
 use differential::outcomes::Outcomes;
+use second::bridge_texts::{BRIDGED_TABLE, LISTING_WITH_A_BRIDGE};
 use second::circuits::LISTING;
 use second::devices::{self, Device};
 use second::lines::TEXT_LIMIT;
@@ -28,7 +29,10 @@ fn stored_cases_are_those_of_today() {
         file == stored(),
         "run `cargo run --release --offline --locked --bin vectors`"
     );
-    assert!(file.len() < 900_000, "{} bytes", file.len());
+    assert!(file.len() < 1_100_000, "{} bytes", file.len());
+    let said = std::fs::read_to_string(path().with_file_name("stdout"));
+    let due = format!("{} cases, 0 differ\n", CASES.len());
+    assert_eq!(said.expect("what is said of them"), due);
     // What the program `vectors` has room for.
     for case in CASES.iter() {
         assert!(case.list.len() <= 2_056 && case.due.len() <= 25_000);
@@ -128,7 +132,7 @@ fn assert_seen(call: &str, least: &[(u32, usize)]) {
 
 #[test]
 fn stored_cases_are_of_every_call_and_outcome() {
-    let lists: [(&str, &[(u32, usize)]); 5] = [
+    let lists: [(&str, &[(u32, usize)]); 6] = [
         ("coefficient", &[(0, 40), (9, 10), (10, 20), (12, 8)]),
         ("spectrum", &[(0, 25), (8, 5), (9, 10), (10, 20)]),
         ("rows", &[(0, 20), (8, 5), (9, 10), (10, 20), (11, 20)]),
@@ -137,16 +141,23 @@ fn stored_cases_are_of_every_call_and_outcome() {
             "opened",
             &[(0, 20), (8, 5), (9, 10), (10, 10), (11, 20), (12, 30)],
         ),
+        (
+            "bridged",
+            &[(0, 50), (8, 8), (9, 20), (10, 10), (11, 25), (12, 30)],
+        ),
     ];
     for (call, least) in lists {
         assert_seen(call, least);
     }
     let of_text: Vec<(u32, usize)> = (2..=7).map(|number| (number, 4)).collect();
     let texts: [(&str, &[(u32, usize)]); 4] = [
-        ("circuit", &[(0, 40), (8, 10), (12, 20), (15, 4)]),
-        ("plan", &[(0, 20), (8, 5), (13, 5), (14, 5), (15, 4)]),
-        ("reading", &[(0, 80), (1, 1), (12, 10)]),
-        ("pair", &[(0, 30), (12, 30)]),
+        ("circuit", &[(0, 40), (8, 10), (12, 20), (15, 4), (19, 4)]),
+        (
+            "plan",
+            &[(0, 20), (8, 5), (13, 5), (14, 5), (15, 4), (19, 8)],
+        ),
+        ("reading", &[(0, 80), (1, 1), (12, 10), (19, 4)]),
+        ("pair", &[(0, 30), (12, 30), (19, 4)]),
     ];
     for (call, least) in texts {
         assert_seen(call, &[&of_text, least].concat());
@@ -164,14 +175,18 @@ fn stored_lists_are_of_every_length() {
         ("rows", 2_048),
         ("stuck", 1_024),
         ("opened", 1_024),
+        ("bridged", 2_048),
     ] {
         let done = CASES.iter().filter(|case| case.number == 0);
         let found: BTreeSet<usize> = done
             .filter(|case| case.call == call)
             .map(|case| case.list.len())
             .collect();
-        // Of two inputs none can be opened lines but one.
-        let shortest = if call == "opened" { 4 } else { 2 };
+        // Of two inputs none can be opened lines but one, and one has no bridge.
+        let shortest = match call {
+            "opened" | "bridged" => 4,
+            _ => 2,
+        };
         for length in [2, 4, 8, 16, 32, 64, 128, 256, longest] {
             let is_due = length >= shortest;
             assert!(!is_due || found.contains(&length), "{call}: no {length}");
@@ -261,7 +276,7 @@ fn stored_reports_are_of_every_kind() {
     assert!(CASES.iter().any(listing));
     let reports = Reports::stored(false);
     let mut least: Vec<(u32, usize)> = (2..=7).map(|number| (number, 10)).collect();
-    least.extend([(0, 200), (1, 1), (13, 20), (14, 30)]);
+    least.extend([(0, 200), (1, 1), (13, 20), (14, 30), (19, 14)]);
     reports.outcomes.assert_seen(&least);
     let (sizes, inputs) = (reports.sizes, reports.inputs);
     assert!(sizes[1..].iter().all(|&count| count >= 20), "{sizes:?}");
@@ -278,7 +293,7 @@ fn stored_reports_are_of_every_kind() {
 fn stored_reports_on_tables_are_of_every_kind() {
     let reports = Reports::stored(true);
     let mut least: Vec<(u32, usize)> = [2, 3, 5, 6, 7].map(|number| (number, 8)).into();
-    least.extend([(0, 40), (1, 1), (13, 8), (14, 10), (15, 14)]);
+    least.extend([(0, 40), (1, 1), (13, 8), (14, 10), (15, 14), (19, 8)]);
     reports.outcomes.assert_seen(&least);
     let (sizes, inputs) = (reports.sizes, reports.inputs);
     assert!(sizes[1..].iter().all(|&count| count >= 3), "{sizes:?}");
@@ -291,10 +306,76 @@ fn stored_reports_on_tables_are_of_every_kind() {
 #[test]
 fn stored_cases_on_tables_are_of_every_call_and_outcome() {
     let of_text: Vec<(u32, usize)> = [2, 3, 5, 6, 7, 15].map(|number| (number, 4)).into();
-    let circuit = [(0, 20), (8, 5), (12, 10)];
+    let circuit = [(0, 20), (8, 5), (12, 10), (19, 0)];
     seen("circuit", is_table).assert_seen(&[&of_text[..], &circuit].concat());
-    let plan = [(0, 10), (8, 5), (13, 3), (14, 2)];
+    let plan = [(0, 10), (8, 5), (13, 3), (14, 2), (19, 1)];
     seen("plan", is_table).assert_seen(&[&of_text[..], &plan].concat());
     seen("reading", is_table).assert_seen(&[(1, 1), (2, 40)]);
     seen("pair", is_table).assert_seen(&[(2, 40)]);
+}
+
+/// A bridge among the lines of the text.
+fn has_a_bridge(text: &[u8]) -> bool {
+    let mut lines = text.split(|&byte| byte == b'\n');
+    lines.any(|line| line.starts_with(b"bridge,"))
+}
+
+/// Those with bridges come after all others, so that these stay as they were.
+#[test]
+fn stored_cases_with_bridges_come_last_and_are_of_every_kind() {
+    let with_bridge = |case: &Case| case.call == "bridged" || has_a_bridge(&case.text);
+    let first = CASES.iter().position(with_bridge).expect("a bridge");
+    assert_eq!(first, 2_048);
+    let last = CASES.iter().rposition(|case| case.call == "field");
+    assert!(last.is_some_and(|last| last < first));
+    for text in [LISTING_WITH_A_BRIDGE, BRIDGED_TABLE] {
+        for call in ["circuit", "plan", "report", "reading", "pair"] {
+            let stored = |case: &&Case| case.call == call && case.text == text.as_bytes();
+            let count = CASES.iter().filter(stored).count();
+            assert!(count > 0, "{call} of {text}");
+        }
+    }
+    seen("circuit", has_a_bridge).assert_seen(&[(0, 15), (8, 5), (12, 10), (19, 4)]);
+    seen("pair", has_a_bridge).assert_seen(&[(0, 12), (2, 5), (12, 3), (19, 4)]);
+    seen("reading", has_a_bridge).assert_seen(&[(0, 10), (2, 5), (19, 4)]);
+    let mut reports = Reports::default();
+    let bridged = CASES.iter().filter(|case| has_a_bridge(&case.text));
+    for case in bridged.filter(|case| case.call == "report") {
+        reports.note(case);
+    }
+    reports.outcomes.assert_seen(&[
+        (0, 30),
+        (2, 5),
+        (3, 5),
+        (5, 1),
+        (6, 1),
+        (7, 1),
+        (13, 3),
+        (14, 5),
+        (19, 20),
+    ]);
+    let sizes = reports.sizes;
+    assert!(sizes[1..].iter().all(|&count| count >= 3), "{sizes:?}");
+}
+
+/// Every pair of few inputs, and each pair's half not whole at some label.
+#[test]
+fn stored_bridges_are_of_every_pair() {
+    let of = |inputs: [u32; 2], length: usize, number: u32| {
+        let stored = |case: &&Case| {
+            case.call == "bridged" && case.first == inputs && case.list.len() == length
+        };
+        let count = CASES.iter().filter(stored);
+        count.filter(|case| case.number == number).count()
+    };
+    for n in 2..=4 {
+        for second in 2..=n {
+            for first in 1..second {
+                for number in [0, 11] {
+                    let count = of([first, second], 1 << n, number);
+                    assert!(count > 0, "{number}: {first} and {second} of {n}");
+                }
+            }
+        }
+    }
 }

@@ -3,6 +3,7 @@
 
 use differential::library::{self, Reply};
 use differential::outcomes::{compare, written, Outcomes};
+use second::bridge_texts::EXAMPLE_ONES;
 use second::random::Random;
 use second::walsh::{self, Refusal, COEFFICIENT_LIMIT, ROW_LIMIT};
 use std::fmt;
@@ -120,6 +121,20 @@ impl Both {
         })
     }
 
+    fn bridged(
+        &mut self,
+        coefficients: &[i32],
+        [first, second]: [u32; 2],
+        room: usize,
+    ) -> (u32, usize) {
+        let due = walsh::bridged(coefficients, first, second, room);
+        let list = Shown(coefficients);
+        let case = format_args!("inputs {first} and {second} bridged of {list}");
+        self.settle(case, room, due, |out| {
+            library::bridged(coefficients, first, second, out)
+        })
+    }
+
     /// A list of one of several makes, each in range.
     fn list(&mut self, length: usize, limit: i32) -> Vec<i32> {
         let random = &mut self.random;
@@ -160,6 +175,17 @@ impl Both {
         eighths.iter().map(|number| 8 * number).collect()
     }
 
+    /// Even numbers: every half of a sum of two is whole.
+    fn evens(&mut self, length: usize, limit: i32) -> Vec<i32> {
+        let halves = self.random.list(length, limit / 2);
+        halves.iter().map(|number| 2 * number).collect()
+    }
+
+    /// Two rising inputs of n.
+    fn bridge(&mut self, n: usize) -> [u32; 2] {
+        self.random.pick(&bridges(n))
+    }
+
     /// One to three rising inputs of n, and values.
     fn fault(&mut self, n: usize) -> (Vec<u32>, Vec<u32>) {
         let count = 1 + self.random.below(n.min(3));
@@ -191,6 +217,21 @@ fn inputs_of(length: usize) -> usize {
     length.trailing_zeros() as usize
 }
 
+/// Every two rising inputs of n.
+fn bridges(n: usize) -> Vec<[u32; 2]> {
+    let n = n as u32;
+    (2..=n)
+        .flat_map(|second| (1..second).map(move |first| [first, second]))
+        .collect()
+}
+
+/// The label without the two inputs.
+fn without(label: usize, bridge: [u32; 2]) -> usize {
+    bridge
+        .iter()
+        .fold(label, |label, input| label & !(1 << (input - 1)))
+}
+
 fn bad_numbers(limit: i32) -> [i32; 6] {
     [
         limit + 1,
@@ -218,6 +259,14 @@ fn library_rows(coefficients: &[i32]) -> Vec<i32> {
     let case = format_args!("rows of {}", Shown(coefficients));
     written(case, coefficients.len(), |out| {
         library::rows(coefficients, out)
+    })
+}
+
+/// The library's bridge, without the second implementation.
+fn library_bridged(coefficients: &[i32], [first, second]: [u32; 2]) -> Vec<i32> {
+    let case = format_args!("{first} and {second} of {}", Shown(coefficients));
+    written(case, coefficients.len(), |out| {
+        library::bridged(coefficients, first, second, out)
     })
 }
 
@@ -298,6 +347,17 @@ fn stuck_rows(rows: &[i32], inputs: &[u32], values: &[u32]) -> Vec<i32> {
         .collect()
 }
 
+/// The rows when two inputs are bridged: neither bit of a row's number stays
+/// where one of them is 0.
+fn bridged_rows(rows: &[i32], bridge: [u32; 2]) -> Vec<i32> {
+    (0..rows.len())
+        .map(|row| {
+            let both = bridge.iter().all(|input| row >> (input - 1) & 1 == 1);
+            rows[if both { row } else { without(row, bridge) }]
+        })
+        .collect()
+}
+
 /// The rows of the first n inputs when the lines after them are stuck.
 fn opened_rows(rows: &[i32], values: &[u32]) -> Vec<i32> {
     let n = inputs_of(rows.len()) - values.len();
@@ -364,10 +424,36 @@ fn examples_of_the_paper() {
     }
 }
 
+/// Example 6.2 of source document 004, and those of note 8.
+#[test]
+fn examples_of_bridges() {
+    let mut rows = vec![0; 16];
+    EXAMPLE_ONES.iter().for_each(|&row| rows[row] = 1);
+    let spectrum = library_spectrum(&rows);
+    let due = [7, 1, 3, 1, -1, -3, -1, 1, 3, 1, -1, 1, -1, 1, -1, 5];
+    assert_eq!(spectrum, due);
+    for (bridge, sum) in [
+        ([1, 2], 10),
+        ([1, 3], 4),
+        ([1, 4], 10),
+        ([2, 4], 9),
+        ([2, 3], 7),
+        ([3, 4], 7),
+    ] {
+        assert_eq!(library_bridged(&spectrum, bridge)[0], sum, "{bridge:?}");
+    }
+    let listing = [4, -2, 0, 2, -2, 0, -2, 0];
+    let due = [2, -2, 0, 0, -2, 2, 0, 0];
+    assert_eq!(library_bridged(&listing, [1, 3]), due);
+    let mut out = [9; 8];
+    let reply = library::bridged(&[0, 0, 0, 0, 0, 1, 0, 0], 1, 2, &mut out);
+    assert_eq!((reply.number, reply.place, out), (11, 4, [9; 8]));
+}
+
 // Lists that every list call must refuse or take in the same way.
 
 /// A list call with arguments that suit any length from 4 up; the stuck
-/// and opened ones take one line.
+/// and opened ones take one line, the bridged one two.
 type Call = fn(&mut Both, &[i32], usize) -> (u32, usize);
 
 struct Subject {
@@ -379,7 +465,7 @@ struct Subject {
     shortest: usize,
 }
 
-const SUBJECTS: [Subject; 4] = [
+const SUBJECTS: [Subject; 5] = [
     Subject {
         name: "spectrum",
         call: |both, list, room| both.spectrum(list, room),
@@ -406,6 +492,13 @@ const SUBJECTS: [Subject; 4] = [
         call: |both, list, room| both.opened(list, &[1], room),
         limit: COEFFICIENT_LIMIT,
         due: |length| length / 2,
+        shortest: 4,
+    },
+    Subject {
+        name: "bridged",
+        call: |both, list, room| both.bridged(list, [1, 2], room),
+        limit: COEFFICIENT_LIMIT,
+        due: |length| length,
         shortest: 4,
     },
 ];
@@ -1156,4 +1249,247 @@ fn opened_lines_with_two_refusals_at_once() {
         assert_eq!(both.opened(&list, &[2], 0), (9, 0), "9, 12, 10 and 8");
     }
     both.outcomes.assert_seen(&[(9, 70), (12, 120)]);
+}
+
+// Bridged inputs.
+
+#[test]
+fn bridges_of_rows_every_pair_of_every_length() {
+    let mut both = Both::new(50);
+    for length in LENGTHS.into_iter().filter(|&l| l >= 4) {
+        for bridge in bridges(inputs_of(length)) {
+            for _ in 0..(2000 / length).clamp(3, 60) {
+                let (rows, spectrum) = both.spectrum_of_rows(length);
+                // On a spectrum of rows every half is whole.
+                assert_eq!(both.bridged(&spectrum, bridge, length), (0, 0));
+                let case = format_args!("inputs {bridge:?} bridged");
+                assert_sums(case, [&rows, &bridged_rows(&rows, bridge)], |out| {
+                    library::bridged(&spectrum, bridge[0], bridge[1], out)
+                });
+            }
+        }
+    }
+    both.outcomes.assert_seen(&[(0, 2000)]);
+}
+
+#[test]
+fn bridges_at_random() {
+    let mut both = Both::new(51);
+    for length in LENGTHS.into_iter().filter(|&l| l >= 4) {
+        let n = inputs_of(length);
+        for _ in 0..rounds(length) * 2 {
+            let mut list = match both.random.below(4) {
+                0 => both.list(length, COEFFICIENT_LIMIT),
+                // Whole halves, but for one at most: 11 at labels beyond 0.
+                _ => {
+                    let mut list = both.evens(length, COEFFICIENT_LIMIT - 2);
+                    let at = both.random.below(length);
+                    list[at] += both.random.pick(&[0, 0, 1, -1, 2]);
+                    list
+                }
+            };
+            both.spoil_at_times(&mut list, COEFFICIENT_LIMIT);
+            let mut bridge = both.bridge(n);
+            match both.random.below(16) {
+                0 => bridge.reverse(),
+                1 => bridge = [both.random.pick(&bridge); 2],
+                2 => {
+                    let at = both.random.below(2);
+                    let far = [0, n as u32 + 1, 32, 33, 1 << 31, u32::MAX];
+                    bridge[at] = both.random.pick(&far);
+                }
+                _ => (),
+            }
+            let room = both.random.room(length);
+            both.bridged(&list, bridge, room);
+        }
+    }
+    both.outcomes.assert_seen(&[
+        (0, 1000),
+        (8, 500),
+        (9, 300),
+        (10, 400),
+        (11, 500),
+        (12, 500),
+    ]);
+    assert!(both.placed > 600, "places beyond 0: {}", both.placed);
+}
+
+/// Four labels share a half: one odd number shows where it is in that half, at
+/// the label of these four that names neither input, and else not at all.
+#[test]
+fn bridges_with_one_odd_half_at_each_place() {
+    let mut both = Both::new(52);
+    for length in LENGTHS.into_iter().filter(|&l| l >= 4) {
+        let mut pairs = bridges(inputs_of(length));
+        if length > 256 {
+            pairs = (0..5).map(|_| both.random.pick(&pairs)).collect();
+        }
+        let mut list = both.evens(length, COEFFICIENT_LIMIT - 2);
+        for bridge in pairs {
+            for at in 0..length {
+                let change = both.random.pick(&[1, -1]);
+                list[at] += change;
+                let named = bridge.iter().filter(|&input| at >> (input - 1) & 1 == 1);
+                let due = match named.count() {
+                    1 => (11, without(at, bridge)),
+                    _ => (0, 0),
+                };
+                let found = both.bridged(&list, bridge, length);
+                assert_eq!(found, due, "{bridge:?} of {length}, odd at {at}");
+                list[at] -= change;
+            }
+        }
+    }
+    both.outcomes.assert_seen(&[(0, 10_000), (11, 10_000)]);
+    assert!(both.placed > 9000, "places beyond 0: {}", both.placed);
+}
+
+#[test]
+fn bridges_with_several_odd_halves() {
+    // The first label is given, whatever comes after it.
+    let mut both = Both::new(53);
+    for length in LENGTHS.into_iter().filter(|&l| l >= 4) {
+        for bridge in bridges(inputs_of(length)) {
+            let [low, high] = bridge.map(|input| 1 << (input - 1));
+            let neither: Vec<usize> = (0..length)
+                .filter(|&label| label == without(label, bridge))
+                .collect();
+            let first = both.random.below(neither.len());
+            let mut list = both.evens(length, COEFFICIENT_LIMIT - 2);
+            let mut odd = neither[first..].to_vec();
+            odd.retain(|&label| label == neither[first] || both.random.once_in(3));
+            for &label in &odd {
+                list[label + low] += 1;
+            }
+            let found = both.bridged(&list, bridge, length);
+            assert_eq!(found, (11, neither[first]), "{bridge:?} of {length}");
+            // Two odd numbers have an even sum.
+            for &label in &odd {
+                list[label + high] -= 1;
+            }
+            assert_eq!(both.bridged(&list, bridge, length), (0, 0), "{bridge:?}");
+        }
+    }
+    both.outcomes.assert_seen(&[(0, 220), (11, 220)]);
+}
+
+#[test]
+fn bridges_every_argument() {
+    let mut both = Both::new(54);
+    for length in LENGTHS {
+        let n = inputs_of(length) as u32;
+        let mut list = both.evens(length, COEFFICIENT_LIMIT);
+        let far = [n + 3, 31, 32, 33, 34, 65, 256, 257, 65_537, 1 << 31];
+        let arguments: Vec<u32> = (0..=n + 2).chain(far).chain([u32::MAX]).collect();
+        for &first in &arguments {
+            for &second in &arguments {
+                let good = 1 <= first && first < second && second <= n;
+                let due = (if good { 0 } else { 12 }, 0);
+                let found = both.bridged(&list, [first, second], length);
+                assert_eq!(found, due, "{first} and {second} of {length}");
+                if !good {
+                    let found = both.bridged(&list, [first, second], length - 1);
+                    assert_eq!(found, (12, 0), "12 and 8: {first} and {second}");
+                    let kept = std::mem::replace(&mut list[0], i32::MIN);
+                    let found = both.bridged(&list, [first, second], length);
+                    assert_eq!(found, (12, 0), "12 and 10: {first} and {second}");
+                    list[0] = kept;
+                }
+            }
+        }
+    }
+    both.outcomes.assert_seen(&[(0, 220), (12, 5000)]);
+}
+
+/// Every choice of reasons to refuse: the first in the order 9, 12, 10, 8, 11.
+#[test]
+fn bridges_with_several_refusals_at_once() {
+    let mut both = Both::new(55);
+    let order = [9, 12, 10, 8, 11];
+    for length in LENGTHS.into_iter().filter(|&l| l >= 4) {
+        let n = inputs_of(length) as u32;
+        for bridge in [[1, 2], [1, n], [n - 1, n]] {
+            for reasons in 0..1 << order.len() {
+                let [longer, argument, range, short, odd] =
+                    [0, 1, 2, 3, 4].map(|reason| reasons >> reason & 1 == 1);
+                let mut list = both.evens(length, COEFFICIENT_LIMIT - 2);
+                list[1 << (bridge[0] - 1)] += i32::from(odd);
+                let at = both.random.below(length);
+                if range {
+                    list[at] = both.random.pick(&bad_numbers(COEFFICIENT_LIMIT));
+                }
+                list.extend(longer.then_some(0));
+                let bad = [[0, 2], [2, 1], [n, n], [n, n + 1], [u32::MAX; 2]];
+                let bridge = match argument {
+                    true => both.random.pick(&bad),
+                    false => bridge,
+                };
+                let room = length - usize::from(short);
+                let number = (0..order.len())
+                    .find(|reason| reasons >> reason & 1 == 1)
+                    .map_or(0, |reason| order[reason]);
+                let due = (number, if number == 10 { at } else { 0 });
+                let found = both.bridged(&list, bridge, room);
+                assert_eq!(found, due, "{bridge:?} of {length}, reasons {reasons:05b}");
+            }
+        }
+    }
+    both.outcomes
+        .assert_seen(&[(0, 30), (8, 60), (9, 480), (10, 120), (11, 30), (12, 240)]);
+    for length in BAD_LENGTHS {
+        let list = vec![1; length];
+        assert_eq!(both.bridged(&list, [1, 2], length), (9, 0), "9 and 11");
+        assert_eq!(both.bridged(&list, [0, 0], 0), (9, 0), "9, 12 and 8");
+        let list = vec![i32::MAX; length];
+        assert_eq!(both.bridged(&list, [2, 1], 0), (9, 0), "9, 12, 10 and 8");
+    }
+    // A list of two has no two inputs.
+    for bridge in [[0, 1], [1, 1], [1, 2], [2, 3], [0, 0], [2, 1]] {
+        assert_eq!(both.bridged(&[2, 4], bridge, 2), (12, 0), "{bridge:?}");
+    }
+}
+
+#[test]
+fn bridges_at_the_ends_of_the_range() {
+    let mut both = Both::new(56);
+    let limit = COEFFICIENT_LIMIT;
+    for length in LENGTHS.into_iter().filter(|&l| l >= 4) {
+        for bridge in bridges(inputs_of(length)) {
+            for sign in [1, -1] {
+                let list = vec![sign * limit; length];
+                assert_eq!(both.bridged(&list, bridge, length), (0, 0));
+                let found = library_bridged(&list, bridge);
+                assert_eq!(found[0], sign * 6_144_000, "{bridge:?} of {length}");
+                assert_eq!(found[1 << (bridge[0] - 1)], sign * limit);
+                // Odd and large: the half of the sum of the ends' neighbours.
+                let odd = vec![sign * (limit - 1); length];
+                assert_eq!(both.bridged(&odd, bridge, length), (0, 0));
+            }
+        }
+    }
+    both.outcomes.assert_seen(&[(0, 880)]);
+}
+
+/// Without the second implementation: a bridge twice is the bridge once, and
+/// where both inputs are stuck at one value it shows no more.
+#[test]
+fn bridges_twice_and_with_both_inputs_stuck() {
+    let mut both = Both::new(57);
+    for length in LENGTHS.into_iter().filter(|&l| l >= 4) {
+        for bridge in bridges(inputs_of(length)) {
+            let (_, spectrum) = both.spectrum_of_rows(length);
+            let once = library_bridged(&spectrum, bridge);
+            assert_eq!(library_bridged(&once, bridge), once, "{bridge:?} twice");
+            for value in [0, 1] {
+                let case = format_args!("{bridge:?} of {length} stuck at {value}");
+                let [sound, faulty] = [&spectrum, &once].map(|list| {
+                    written(case, length, |out| {
+                        library::stuck(list, &bridge, &[value; 2], out)
+                    })
+                });
+                assert_eq!(sound, faulty, "{case}");
+            }
+        }
+    }
 }

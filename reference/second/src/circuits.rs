@@ -205,7 +205,7 @@ impl Draft {
     }
 
     /// Line and field of a number, each line that has one being as likely.
-    fn draw_number(&self, random: &mut Random) -> (usize, usize) {
+    pub(crate) fn draw_number(&self, random: &mut Random) -> (usize, usize) {
         let lines: Vec<usize> = (0..self.lines.len())
             .filter(|&line| self.first_number(line) < self.lines[line].len())
             .collect();
@@ -246,17 +246,20 @@ impl Draft {
     fn bound(&self, line: usize) -> usize {
         match self.lines[line][0].as_str() {
             "gate" => self.sizes.inputs + line,
+            "bridge" => self.sizes.inputs + 1,
             _ => self.sizes.inputs + self.sizes.gates + 1,
         }
     }
 
     /// Moves a number to an end of its range or past it, to an end of what
     /// there is, or spoils how it is written.
-    fn move_number(&mut self, random: &mut Random, line: usize, field: usize) {
+    pub(crate) fn move_number(&mut self, random: &mut Random, line: usize, field: usize) {
         let (low, high) = self.range(line, field);
         let bound = self.bound(line);
         let number = self.lines[line][field].clone();
         let before = match field.checked_sub(2) {
+            // Of a bridge it is the other input.
+            Some(_) if self.lines[line][0] == "bridge" => self.lines[line][1].clone(),
             // In a fault it is the line, or the value, of the pair before.
             Some(before) => self.lines[line][before].clone(),
             None => number.clone(),
@@ -815,6 +818,7 @@ mod tests {
             let outputs: Vec<usize> = netlist.outputs.iter().map(|output| output.line).collect();
             twice += usize::from((1..4).any(|at| outputs[..at].contains(&outputs[at])));
             for fault in &netlist.faults {
+                let fault = fault.stuck();
                 counts[fault.len()] += 1;
                 let is_output = |line| outputs.contains(&line);
                 let input = fault.iter().any(|stuck| stuck.line <= 8);

@@ -2,7 +2,7 @@
 //! of a fault, and the cap. The circuit call stands here; plan and report need
 //! no more of a text either.
 
-use crate::lines::StuckLine;
+use crate::lines::Fault;
 use crate::netlist::{self, Netlist};
 use crate::tables::{self, is_table, Table};
 use crate::walsh::{self, Refusal};
@@ -30,7 +30,7 @@ impl Device {
         }
     }
 
-    pub fn faults(&self) -> &[Vec<StuckLine>] {
+    pub fn faults(&self) -> &[Fault] {
         match self {
             Device::Circuit(netlist) => &netlist.faults,
             Device::Table(table) => &table.faults,
@@ -63,8 +63,9 @@ pub fn circuit(text: &[u8], fault: u32, room: usize) -> Result<Vec<i32>, Refusal
 #[cfg(test)]
 mod tests {
     use super::*;
+    use crate::bridge_texts::{self, BRIDGED_TABLE, LISTING_WITH_A_BRIDGE, SILENT_BRIDGE};
     use crate::circuits::{
-        LISTING, SILENT_FAULT, STUCK_INNER_LINE, STUCK_INPUTS, TWO_OUTPUTS, TWO_STUCK_INPUTS,
+        Sizes, LISTING, SILENT_FAULT, STUCK_INNER_LINE, STUCK_INPUTS, TWO_OUTPUTS, TWO_STUCK_INPUTS,
     };
     use crate::lines::TEXT_LIMIT;
     use crate::random::Random;
@@ -104,6 +105,45 @@ mod tests {
         assert_eq!(spectrum_of(TWO_OUTPUTS, 0), [4, -2, -2, 0]);
         assert_eq!(spectrum_of(TWO_OUTPUTS, 1), [4, 2, -2, 0]);
         assert_eq!(spectrum_of(TWO_OUTPUTS, 2), [4, -2, 2, 0]);
+    }
+
+    #[test]
+    fn bridges_of_the_examples() {
+        let due = [2, -2, 0, 0, -2, 2, 0, 0];
+        assert_eq!(spectrum_of(LISTING_WITH_A_BRIDGE, 2), due);
+        assert_eq!(spectrum_of(SILENT_BRIDGE, 0), spectrum_of(SILENT_BRIDGE, 1));
+        // A table's are doubled.
+        for (fault, sum) in [(0, 14), (1, 20), (2, 14), (3, 14)] {
+            assert_eq!(spectrum_of(BRIDGED_TABLE, fault)[0], sum, "fault {fault}");
+        }
+    }
+
+    #[test]
+    fn bridges_from_coefficients_alone() {
+        let mut random = Random::new(42);
+        let mut seen = [0; 2];
+        for round in 0..200 {
+            let inputs = 2 + round % 6;
+            let draft = match round % 2 {
+                0 => {
+                    let drawn = Sizes::draw(&mut random);
+                    bridge_texts::draw_circuit(&mut random, Sizes { inputs, ..drawn })
+                }
+                _ => bridge_texts::draw_table(&mut random, inputs),
+            };
+            let text = draft.text();
+            let device = parse(&text).expect("a good text");
+            let sound = circuit(&text, 0, 256).expect("fault 0");
+            for (fault, number) in device.faults().iter().zip(1..) {
+                if let Some((first, second)) = fault.bridge() {
+                    let room = random.room(sound.len());
+                    let found = walsh::bridged(&sound, first as u32, second as u32, room);
+                    assert_eq!(found, circuit(&text, number, room), "{draft:?}");
+                    seen[usize::from(found.is_err())] += 1;
+                }
+            }
+        }
+        assert!(seen[0] > 500 && seen[1] > 100, "{seen:?}");
     }
 
     #[test]

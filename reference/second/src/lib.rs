@@ -2,6 +2,7 @@
 //! paper alone: it knows nothing of the planner's code and links none of it.
 //! With it come the texts that tests draw and the stored cases.
 
+pub mod bridge_texts;
 pub mod circuits;
 pub mod devices;
 pub mod lines;

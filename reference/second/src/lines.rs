@@ -1,6 +1,6 @@
 //! What both texts are made of: lines one after the other, their fields, the
-//! first line's numbers and the lines of the faults. Written from the paper's
-//! sentences and nothing else.
+//! first line's numbers and the lines of the faults. Written from the sentences
+//! of the paper and of note 8, and nothing else.
 
 use crate::walsh::{refuse, test_argument, Refusal};
 use std::ops::RangeInclusive;
@@ -16,15 +16,37 @@ pub struct StuckLine {
     pub value: bool,
 }
 
-/// The stuck lines of a fault: none of fault 0, which stands for no fault; 12
-/// where there is no such fault.
-pub(crate) fn stuck_under(faults: &[Vec<StuckLine>], fault: u32) -> Result<&[StuckLine], Refusal> {
+/// One to three stuck lines, or "one bridge to a line": two inputs.
+#[derive(Clone, Debug, PartialEq, Eq)]
+pub enum Fault {
+    Stuck(Vec<StuckLine>),
+    Bridge { first: usize, second: usize },
+}
+
+impl Fault {
+    /// The stuck lines; none of a bridge.
+    pub fn stuck(&self) -> &[StuckLine] {
+        match self {
+            Fault::Stuck(lines) => lines,
+            Fault::Bridge { .. } => &[],
+        }
+    }
+
+    /// The bridged inputs.
+    pub fn bridge(&self) -> Option<(usize, usize)> {
+        match *self {
+            Fault::Stuck(_) => None,
+            Fault::Bridge { first, second } => Some((first, second)),
+        }
+    }
+}
+
+/// The fault of this number, from 1: none for 0, and 12 where there is no such
+/// fault.
+pub(crate) fn fault_of(faults: &[Fault], fault: u32) -> Result<Option<&Fault>, Refusal> {
     let fault = fault as usize;
     test_argument(fault <= faults.len())?;
-    Ok(match fault {
-        0 => &[],
-        _ => &faults[fault - 1],
-    })
+    Ok(fault.checked_sub(1).map(|at| &faults[at]))
 }
 
 /// "1 to 4 decimal digits, with no leading zero except in `0` itself".
@@ -44,7 +66,7 @@ fn is_comma(byte: &u8) -> bool {
 }
 
 /// One line of the text; its fields are taken from the left. All of them are
-/// taken, and 2 given where one is bad, before 3 to 6 are tested.
+/// taken, and 2 given where one is bad, before 3 to 6 and 19 are tested.
 pub(crate) struct Line<'a> {
     place: usize,
     fields: std::slice::Split<'a, u8, fn(&u8) -> bool>,
@@ -103,10 +125,31 @@ impl Line<'_> {
         Ok(sizes)
     }
 
-    /// `fault,LINE,VALUE`, "with one to three LINE,VALUE pairs"; lines above
-    /// `last` are not there.
-    fn fault(mut self, last: usize) -> Result<Vec<StuckLine>, Refusal> {
-        self.word("fault")?;
+    /// A fault by the line's word, which chooses its kind.
+    fn fault(mut self, inputs: usize, last: usize) -> Result<Fault, Refusal> {
+        match self.fields.next() {
+            Some(b"fault") => self.stuck_lines(last),
+            Some(b"bridge") => self.bridge(inputs),
+            _ => refuse(2, self.place),
+        }
+    }
+
+    /// After the word of `bridge,I,J`: "19 where I or J is above N or they do
+    /// not rise".
+    fn bridge(mut self, inputs: usize) -> Result<Fault, Refusal> {
+        let (first, second) = (self.number()?, self.number()?);
+        self.end()?;
+        for input in [first, second] {
+            self.test(3, (1..=LINE_LIMIT).contains(&input))?;
+        }
+        self.test(19, first <= inputs && second <= inputs)?;
+        self.test(19, first < second)?;
+        Ok(Fault::Bridge { first, second })
+    }
+
+    /// After the word of `fault,LINE,VALUE`, "with one to three LINE,VALUE
+    /// pairs"; lines above `last` are not there.
+    fn stuck_lines(mut self, last: usize) -> Result<Fault, Refusal> {
         let mut pairs = Vec::with_capacity(3);
         while !self.is_over() {
             pairs.push((self.number()?, self.number()?));
@@ -117,13 +160,11 @@ impl Line<'_> {
         }
         self.test(5, pairs.iter().all(|&(line, _)| line <= last))?;
         self.test(6, pairs.windows(2).all(|two| two[0].0 < two[1].0))?;
-        Ok(pairs
-            .into_iter()
-            .map(|(line, value)| StuckLine {
-                line,
-                value: value == 1,
-            })
-            .collect())
+        let stuck = pairs.into_iter().map(|(line, value)| StuckLine {
+            line,
+            value: value == 1,
+        });
+        Ok(Fault::Stuck(stuck.collect()))
     }
 }
 
@@ -170,16 +211,18 @@ impl<'a> Reader<'a> {
         refuse(number, self.taken)
     }
 
-    /// The lines of the faults, the last of a text: 7 is due only where every
-    /// line before it was good.
+    /// The lines of the faults, the last of a text, which may bridge inputs and
+    /// stick lines up to `last`: 7 is due only where every line before it was
+    /// good.
     pub(crate) fn faults(
         mut self,
         count: usize,
+        inputs: usize,
         last: usize,
-    ) -> Result<Vec<Vec<StuckLine>>, Refusal> {
+    ) -> Result<Vec<Fault>, Refusal> {
         let mut faults = Vec::with_capacity(count);
         for _ in 0..count {
-            faults.push(self.line()?.fault(last)?);
+            faults.push(self.line()?.fault(inputs, last)?);
         }
         if !self.rest.is_empty() {
             return refuse(7, self.taken + 1);

@@ -1,7 +1,7 @@
-//! The circuit text and its rows, written from the paper's sentences and nothing
-//! else.
+//! The circuit text and its rows, written from the sentences of the paper and of
+//! note 8, and nothing else.
 
-use crate::lines::{stuck_under, Line, Reader, StuckLine, LINE_LIMIT};
+use crate::lines::{fault_of, Fault, Line, Reader, LINE_LIMIT};
 use crate::walsh::Refusal;
 
 /// No coefficient of a circuit is beyond it: 256 rows, 4 outputs of weight 15.
@@ -71,12 +71,31 @@ pub struct Netlist {
     pub inputs: usize,
     pub gates: Vec<Gate>,
     pub outputs: Vec<Output>,
-    pub faults: Vec<Vec<StuckLine>>,
+    pub faults: Vec<Fault>,
     pub cap: usize,
 }
 
-/// What each line shows whatever was applied or computed; index 0 is no line.
-type Stuck = [Option<bool>; LINE_LIMIT + 1];
+/// What a fault does to the lines of a circuit.
+struct Held {
+    /// What each line shows whatever was applied or computed; index 0 is no
+    /// line.
+    stuck: [Option<bool>; LINE_LIMIT + 1],
+    /// The inputs that show the AND of what is applied to them.
+    bridge: Option<(usize, usize)>,
+}
+
+impl Held {
+    fn by(fault: Option<&Fault>) -> Held {
+        let mut stuck = [None; LINE_LIMIT + 1];
+        for pair in fault.map_or(&[][..], Fault::stuck) {
+            stuck[pair.line] = Some(pair.value);
+        }
+        Held {
+            stuck,
+            bridge: fault.and_then(Fault::bridge),
+        }
+    }
+}
 
 impl Line<'_> {
     /// `gate,KIND,A,B`, the gate that drives line `own`.
@@ -111,7 +130,7 @@ impl Line<'_> {
 }
 
 /// Reads a text: "1 first, then line by line; within a line 2, 3, then 4, 5,
-/// 6".
+/// 6", of a bridge 19 "in the place of 5 and 6".
 pub fn parse(text: &[u8]) -> Result<Netlist, Refusal> {
     let mut reader = Reader::new(text)?;
     let ranges = [1..=8, 0..=48, 1..=4, 1..=32, 1..=4];
@@ -130,7 +149,7 @@ pub fn parse(text: &[u8]) -> Result<Netlist, Refusal> {
     for _ in 0..outputs {
         netlist.outputs.push(reader.line()?.output(lines)?);
     }
-    netlist.faults = reader.faults(faults, lines)?;
+    netlist.faults = reader.faults(faults, inputs, lines)?;
     Ok(netlist)
 }
 
@@ -138,25 +157,26 @@ impl Netlist {
     /// The row values of the sound circuit (fault 0) or under a fault (from
     /// 1); 12 where there is no such fault.
     pub fn rows(&self, fault: u32) -> Result<Vec<i32>, Refusal> {
-        let mut stuck = [None; LINE_LIMIT + 1];
-        for pair in stuck_under(&self.faults, fault)? {
-            stuck[pair.line] = Some(pair.value);
-        }
+        let held = Held::by(fault_of(&self.faults, fault)?);
         Ok((0..1 << self.inputs)
-            .map(|row| self.row(row, &stuck))
+            .map(|row| self.row(row, &held))
             .collect())
     }
 
     /// "the sum of WEIGHT over outputs showing 1".
-    fn row(&self, row: usize, stuck: &Stuck) -> i32 {
+    fn row(&self, row: usize, held: &Held) -> i32 {
         let mut shown = [false; LINE_LIMIT + 1];
         for input in 1..=self.inputs {
             let applied = row & (1 << (input - 1)) != 0;
-            shown[input] = stuck[input].unwrap_or(applied);
+            shown[input] = held.stuck[input].unwrap_or(applied);
+        }
+        if let Some((first, second)) = held.bridge {
+            let both = shown[first] & shown[second];
+            (shown[first], shown[second]) = (both, both);
         }
         for (gate, own) in self.gates.iter().zip(self.inputs + 1..) {
             let computed = gate.kind.value(shown[gate.a], shown[gate.b]);
-            shown[own] = stuck[own].unwrap_or(computed);
+            shown[own] = held.stuck[own].unwrap_or(computed);
         }
         self.outputs
             .iter()
@@ -169,10 +189,12 @@ impl Netlist {
 #[cfg(test)]
 mod tests {
     use super::*;
-    use crate::circuits::{with_line, LISTING};
+    use crate::bridge_texts;
+    use crate::circuits::{with_line, Sizes, LISTING};
     use crate::lines::TEXT_LIMIT;
+    use crate::random::Random;
     use crate::table_texts::SMALL;
-    use crate::walsh::{number_and_place, refuse};
+    use crate::walsh::{bridged_rows, number_and_place, refuse};
 
     /// What the listing gives with its line `place` replaced.
     fn refused(place: usize, line: &str) -> (u32, usize) {
@@ -196,6 +218,105 @@ mod tests {
         assert_eq!(netlist.rows(0), Ok(vec![2, 13, 12, 13]));
         assert_eq!(netlist.rows(1), Ok(vec![3; 4]));
         assert_eq!(netlist.rows(2), Ok(vec![12; 4]));
+    }
+
+    #[test]
+    fn bridged_inputs_show_in_gates_and_outputs() {
+        // x1, x2, their xor, and x3 with x2: weights 1, 2, 4 and 8.
+        let text = "circuit,3,2,4,4,1\ngate,xor,1,2\ngate,and,2,3\n\
+            output,1,1\noutput,2,2\noutput,4,4\noutput,5,8\n\
+            bridge,1,2\nbridge,1,3\nbridge,2,3\nfault,1,1\n";
+        let netlist = parse(text.as_bytes()).expect("a good text");
+        assert_eq!(netlist.rows(0), Ok(vec![0, 5, 6, 3, 0, 5, 14, 11]));
+        assert_eq!(netlist.rows(1), Ok(vec![0, 0, 0, 3, 0, 0, 0, 11]));
+        assert_eq!(netlist.rows(2), Ok(vec![0, 0, 6, 6, 0, 5, 6, 11]));
+        assert_eq!(netlist.rows(3), Ok(vec![0, 5, 0, 5, 0, 5, 14, 11]));
+        assert_eq!(netlist.rows(4), Ok(vec![5, 5, 3, 3, 5, 5, 11, 11]));
+        assert_eq!(netlist.rows(5), refuse(12, 0));
+    }
+
+    #[test]
+    fn rows_under_a_bridge_are_sound_rows_with_both_inputs_replaced() {
+        let mut random = Random::new(41);
+        let mut changed = 0;
+        for round in 0..200 {
+            let drawn = Sizes::draw(&mut random);
+            let inputs = 2 + round % 7;
+            let draft = bridge_texts::draw_circuit(&mut random, Sizes { inputs, ..drawn });
+            let netlist = parse(&draft.text()).expect("a good circuit");
+            let sound = netlist.rows(0).expect("fault 0");
+            for (fault, number) in netlist.faults.iter().zip(1..) {
+                let Some((first, second)) = fault.bridge() else {
+                    continue;
+                };
+                let due = bridged_rows(&sound, first, second);
+                changed += usize::from(due != sound);
+                assert_eq!(netlist.rows(number), Ok(due), "{draft:?}");
+            }
+        }
+        assert!(changed > 500, "{changed} bridges");
+    }
+
+    #[test]
+    fn refusals_of_a_bridge() {
+        // Three inputs and four gates, whose lines are no inputs.
+        for (line, number) in [
+            ("bridge,1,2", 0),
+            ("bridge,1,3", 0),
+            ("bridge,2,3", 0),
+            ("bridge", 2),
+            ("bridge,", 2),
+            ("bridge,1", 2),
+            ("bridge,1,", 2),
+            ("bridge,,2", 2),
+            ("bridge,1,2,", 2),
+            ("bridge,1,2,3", 2),
+            ("bridge,1,2,3,0", 2),
+            ("bridge,01,2", 2),
+            ("bridge,1,10000", 2),
+            ("bridge,x,57", 2),
+            ("bridge,57,x", 2),
+            ("bridges,1,2", 2),
+            ("Bridge,1,2", 2),
+            ("bridge ,1,2", 2),
+            ("bridge,1,2\r", 2),
+            ("and,1,2", 2),
+            ("bridge,0,1", 3),
+            ("bridge,1,0", 3),
+            ("bridge,0,0", 3),
+            ("bridge,1,57", 3),
+            ("bridge,57,1", 3),
+            ("bridge,9999,9999", 3),
+            ("bridge,3,57", 3),
+            ("bridge,4,0", 3),
+            ("bridge,1,1", 19),
+            ("bridge,2,2", 19),
+            ("bridge,3,2", 19),
+            ("bridge,3,1", 19),
+            ("bridge,1,4", 19),
+            ("bridge,3,4", 19),
+            ("bridge,4,7", 19),
+            ("bridge,7,1", 19),
+            ("bridge,7,7", 19),
+            ("bridge,1,8", 19),
+            ("bridge,8,1", 19),
+            ("bridge,1,56", 19),
+            ("bridge,56,56", 19),
+            ("fault,3,2", 3),
+            ("fault,8,0", 5),
+            ("fault,3,0,3,0", 6),
+        ] {
+            for place in [7, 8] {
+                let due = (number, if number == 0 { 0 } else { place });
+                assert_eq!(refused(place, line), due, "{line}");
+            }
+        }
+        // With four inputs one of those lines is an input.
+        for (line, due) in [("bridge,2,4", (0, 0)), ("bridge,2,5", (19, 7))] {
+            let text = LISTING.replace("circuit,3", "circuit,4");
+            let found = number_and_place(&parse(&with_line(&text, 7, line)));
+            assert_eq!(found, due, "{line}");
+        }
     }
 
     #[test]

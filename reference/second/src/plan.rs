@@ -104,6 +104,7 @@ pub fn plan(text: &[u8], working: usize) -> Result<Vec<usize>, Refusal> {
 #[cfg(test)]
 mod tests {
     use super::*;
+    use crate::bridge_texts::{BRIDGED_TABLE, LISTING_WITH_A_BRIDGE, SILENT_BRIDGE};
     use crate::circuits::{with_line, LISTING, SILENT_FAULT, TWO_OUTPUTS};
     use crate::table_texts::{ANOTHER_MARK, SILENT_INPUT, SMALL};
 
@@ -131,6 +132,9 @@ mod tests {
         assert_eq!(plan(SMALL.as_bytes(), working), Ok(vec![0]));
         assert_eq!(plan(SILENT_INPUT.as_bytes(), working), refuse(13, 1));
         assert_eq!(plan(ANOTHER_MARK.as_bytes(), working), refuse(15, 2));
+        assert_eq!(plan(LISTING_WITH_A_BRIDGE.as_bytes(), working), Ok(vec![3]));
+        assert_eq!(plan(SILENT_BRIDGE.as_bytes(), working), refuse(13, 1));
+        assert_eq!(plan(BRIDGED_TABLE.as_bytes(), working), Ok(vec![2]));
     }
 
     #[test]
@@ -140,5 +144,8 @@ mod tests {
         assert_eq!(plan(LISTING.as_bytes(), short), refuse(8, 0));
         assert_eq!(plan(SILENT_FAULT.as_bytes(), short), refuse(8, 0));
         assert_eq!(plan(TWO_OUTPUTS.as_bytes(), short), refuse(8, 0));
+        assert_eq!(plan(SILENT_BRIDGE.as_bytes(), short), refuse(8, 0));
+        let no_inputs = with_line(LISTING_WITH_A_BRIDGE, 8, "bridge,1,4");
+        assert_eq!(plan(&no_inputs, short), refuse(19, 8));
     }
 }

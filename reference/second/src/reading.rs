@@ -117,6 +117,7 @@ pub fn pair(text: &[u8], fault: u32, mask: u32, values: u32) -> Result<Pair, Ref
 #[cfg(test)]
 mod tests {
     use super::*;
+    use crate::bridge_texts::LISTING_WITH_A_BRIDGE;
     use crate::circuits::{with_line, HALF_AND_A_ROW, LISTING, STUCK_INPUTS, TWO_OUTPUTS};
     use crate::lines::TEXT_LIMIT;
     use crate::netlist::CIRCUIT_LIMIT;
@@ -225,6 +226,33 @@ mod tests {
             };
             assert_eq!(pair(text, fault, 0, 0), Ok(due), "fault {fault}");
         }
+    }
+
+    #[test]
+    fn pairs_under_a_bridge() {
+        // The rows 0, 0, 0, 1, 1, 1, 0, 1 become 0, 0, 0, 0, 0, 1, 0, 1.
+        let text = LISTING_WITH_A_BRIDGE.as_bytes();
+        for (mask, values, sound, faulty, count) in [
+            (0, 0, 4, 2, 8),
+            (1, 0, 1, 0, 4),
+            (1, 1, 3, 2, 4),
+            (4, 0, 1, 0, 4),
+            (5, 1, 1, 0, 2),
+            (5, 5, 2, 2, 2),
+            (7, 3, 1, 0, 1),
+        ] {
+            let due = Pair {
+                sound: quotient(sound, count),
+                faulty: quotient(faulty, count),
+                difference: quotient(sound - faulty, count),
+            };
+            assert_eq!(pair(text, 2, mask, values), Ok(due), "mask {mask}");
+        }
+        let bits = quotient(4, 8);
+        assert_eq!(reading(text, 0, 0), Reading::PlainSyndrome { bits });
+        let no_inputs = with_line(LISTING_WITH_A_BRIDGE, 8, "bridge,3,3");
+        assert_eq!(reading(&no_inputs, 8, 0), refused(19, 8));
+        assert_eq!(pair(&no_inputs, 0, 0, 0), refuse(19, 8));
     }
 
     #[test]

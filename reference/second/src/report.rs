@@ -52,6 +52,7 @@ pub fn report(text: &[u8], room: usize, working: usize) -> Result<Vec<u8>, Refus
 #[cfg(test)]
 mod tests {
     use super::*;
+    use crate::bridge_texts::{BRIDGED_TABLE, LISTING_WITH_A_BRIDGE, SILENT_BRIDGE};
     use crate::circuits::{with_line, LISTING, SILENT_FAULT, TWO_OUTPUTS};
     use crate::table_texts::{ANOTHER_MARK, SILENT_INPUT, SMALL};
     use crate::walsh::refuse;
@@ -75,6 +76,17 @@ mod tests {
         assert_eq!(report_on(SMALL.as_bytes()), due);
         assert_eq!(report_on(SILENT_INPUT.as_bytes()), "refused,13,1\n");
         assert_eq!(report_on(ANOTHER_MARK.as_bytes()), "refused,15,2\n");
+    }
+
+    #[test]
+    fn examples_with_bridges() {
+        let due = "plan,1\nlabel,3,2\nfault,1,3,0\nfault,2,3,0\n";
+        assert_eq!(report_on(LISTING_WITH_A_BRIDGE.as_bytes()), due);
+        assert_eq!(report_on(SILENT_BRIDGE.as_bytes()), "refused,13,1\n");
+        let due = "plan,1\nlabel,2,6\nfault,1,2,4\nfault,2,2,2\nfault,3,2,2\n";
+        assert_eq!(report_on(BRIDGED_TABLE.as_bytes()), due);
+        let no_inputs = with_line(BRIDGED_TABLE, 4, "bridge,2,5");
+        assert_eq!(report_on(&no_inputs), "refused,19,4\n");
     }
 
     #[test]

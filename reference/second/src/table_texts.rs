@@ -93,12 +93,12 @@ pub fn draw_with_a_silent_input(random: &mut Random, inputs: usize) -> Draft {
 
 /// A function of a few inputs.
 #[derive(Clone, Copy)]
-struct Block {
-    inputs: usize,
-    value: fn(&[bool]) -> bool,
+pub(crate) struct Block {
+    pub(crate) inputs: usize,
+    pub(crate) value: fn(&[bool]) -> bool,
 }
 
-const NOTHING: Block = Block {
+pub(crate) const NOTHING: Block = Block {
     inputs: 0,
     value: |_| false,
 };
@@ -134,16 +134,16 @@ const RING: Block = Block {
 
 /// Two blocks at inputs of their own. The doubled rows are the sums of their
 /// values, so that no label but 0 covers faults of both.
-struct Blocks {
-    inputs: usize,
-    blocks: [Block; 2],
+pub(crate) struct Blocks {
+    pub(crate) inputs: usize,
+    pub(crate) blocks: [Block; 2],
     /// The inputs of the first block, then those of the second.
-    places: Vec<usize>,
+    pub(crate) places: Vec<usize>,
 }
 
 impl Blocks {
     /// None where there are too few inputs.
-    fn draw(random: &mut Random, inputs: usize, blocks: [Block; 2]) -> Option<Blocks> {
+    pub(crate) fn draw(random: &mut Random, inputs: usize, blocks: [Block; 2]) -> Option<Blocks> {
         let used = blocks.iter().map(|block| block.inputs).sum();
         let mut places: Vec<usize> = (1..=inputs).collect();
         for at in (1..inputs).rev() {
@@ -168,7 +168,7 @@ impl Blocks {
         usize::from((first.value)(to_first)) + usize::from((second.value)(to_second))
     }
 
-    fn draft(&self, faults: &[Vec<String>], cap: usize) -> Draft {
+    pub(crate) fn draft(&self, faults: &[Vec<String>], cap: usize) -> Draft {
         let rows: Vec<usize> = (0..1 << self.inputs).map(|row| self.row(row)).collect();
         draft(&rows, faults, cap)
     }
@@ -372,7 +372,7 @@ mod tests {
             faults[table.faults.len()] += 1;
             caps[table.cap] += 1;
             for fault in &table.faults {
-                pairs[fault.len()] += 1;
+                pairs[fault.stuck().len()] += 1;
             }
         }
         assert!(faults[1..].iter().all(|&count| count > 10), "{faults:?}");

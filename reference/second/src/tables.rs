@@ -1,8 +1,8 @@
-//! The table text and its rows, written from note 1 of the change requests and
-//! the paper's sentences on lines, and nothing else.
+//! The table text and its rows, written from notes 1 and 8 of the change requests
+//! and the paper's sentences on lines, and nothing else.
 
-use crate::lines::{stuck_under, Reader, StuckLine};
-use crate::walsh::Refusal;
+use crate::lines::{fault_of, Fault, Reader, StuckLine};
+use crate::walsh::{bridged_row, Refusal};
 
 /// An accepted table text.
 #[derive(Clone, Debug, PartialEq, Eq)]
@@ -10,7 +10,7 @@ pub struct Table {
     pub inputs: usize,
     /// The doubled value of each row.
     pub rows: Vec<i32>,
-    pub faults: Vec<Vec<StuckLine>>,
+    pub faults: Vec<Fault>,
     pub cap: usize,
 }
 
@@ -47,7 +47,7 @@ pub fn parse(text: &[u8]) -> Result<Table, Refusal> {
     Ok(Table {
         inputs,
         rows,
-        faults: reader.faults(faults, inputs)?,
+        faults: reader.faults(faults, inputs, inputs)?,
         cap,
     })
 }
@@ -56,10 +56,19 @@ impl Table {
     /// The doubled row values, sound (fault 0) or under a fault (from 1); 12
     /// where there is no such fault.
     pub fn rows(&self, fault: u32) -> Result<Vec<i32>, Refusal> {
-        let stuck = stuck_under(&self.faults, fault)?;
+        let fault = fault_of(&self.faults, fault)?;
         Ok((0..self.rows.len())
-            .map(|row| self.rows[replaced(row, stuck)])
+            .map(|row| self.rows[shown(row, fault)])
             .collect())
+    }
+}
+
+/// The row whose mark a row takes under a fault.
+fn shown(row: usize, fault: Option<&Fault>) -> usize {
+    match fault {
+        None => row,
+        Some(Fault::Stuck(stuck)) => replaced(row, stuck),
+        Some(&Fault::Bridge { first, second }) => bridged_row(row, first, second),
     }
 }
 
@@ -77,6 +86,7 @@ fn replaced(row: usize, stuck: &[StuckLine]) -> usize {
 #[cfg(test)]
 mod tests {
     use super::*;
+    use crate::bridge_texts::BRIDGED_TABLE;
     use crate::circuits::with_line;
     use crate::lines::TEXT_LIMIT;
     use crate::table_texts::{FIGURE, SILENT_INPUT, SMALL};
@@ -112,6 +122,54 @@ mod tests {
         assert_eq!(table.rows(1), Ok(vec![0, 0, 2, 2, 0, 0, 2, 2]));
         assert_eq!(table.rows(2), Ok(vec![1; 8]));
         assert_eq!(table.rows(3), Ok(vec![0, 2, 1, 2, 0, 2, 1, 2]));
+    }
+
+    #[test]
+    fn rows_under_a_bridge_by_hand() {
+        let text = "table,3,4,1\n01-10-10\nbridge,1,2\nbridge,1,3\nfault,2,0\nbridge,2,3\n";
+        let table = parse(text.as_bytes()).expect("a good table");
+        assert_eq!(table.rows(0), Ok(vec![0, 2, 1, 2, 0, 1, 2, 0]));
+        assert_eq!(table.rows(1), Ok(vec![0, 0, 0, 2, 0, 0, 0, 0]));
+        assert_eq!(table.rows(2), Ok(vec![0, 0, 1, 1, 0, 1, 1, 0]));
+        assert_eq!(table.rows(3), Ok(vec![0, 2, 0, 2, 0, 1, 0, 1]));
+        assert_eq!(table.rows(4), Ok(vec![0, 2, 0, 2, 0, 2, 2, 0]));
+        assert_eq!(table.rows(5), refuse(12, 0));
+    }
+
+    #[test]
+    fn refusals_of_a_bridge() {
+        assert!(parse(BRIDGED_TABLE.as_bytes()).is_ok());
+        for (line, number) in [
+            ("bridge,1,2", 0),
+            ("bridge,1", 2),
+            ("bridge,1,2,1", 2),
+            ("bridge,3,1,", 2),
+            ("bridge,57,02", 2),
+            ("bridge,1,0", 3),
+            ("bridge,57,1", 3),
+            ("bridge,2,57", 3),
+            ("bridge,1,3", 19),
+            ("bridge,3,4", 19),
+            ("bridge,3,1", 19),
+            ("bridge,2,1", 19),
+            ("bridge,2,2", 19),
+            ("bridge,56,55", 19),
+            ("fault,3,0", 5),
+            ("fault,2,0,1,0", 6),
+        ] {
+            for place in [3, 4] {
+                let due = (number, if number == 0 { 0 } else { place });
+                assert_eq!(refused(place, line), due, "{line:?}");
+            }
+        }
+        // One input has no bridge.
+        for line in ["bridge,1,1", "bridge,1,2", "bridge,2,3"] {
+            assert_eq!(
+                parse(&with_line(SILENT_INPUT, 3, line)),
+                refuse(19, 3),
+                "{line}"
+            );
+        }
     }
 
     #[test]

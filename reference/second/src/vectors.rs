@@ -8,6 +8,7 @@
 //! arguments (each number a sign, ten digits, and a comma or a line end), and
 //! what is due; `crates/vectors/src/main.rt` says what that is for each call.
 
+mod bridges;
 mod examples;
 mod lists;
 mod tables;
@@ -54,7 +55,8 @@ pub fn stored() -> Vec<u8> {
     cases().iter().flat_map(Case::bytes).collect()
 }
 
-/// All cases: the paper's examples first, those on tables last.
+/// All cases: the paper's examples first, those on tables and then those with
+/// bridges last, so that earlier cases stay where they were.
 pub fn cases() -> Vec<Case> {
     let texts = texts::texts(&mut Random::new(SEED));
     let mut random = Random::new(SEED + 1);
@@ -64,6 +66,7 @@ pub fn cases() -> Vec<Case> {
     cases.extend(lists::cases(&mut random));
     cases.extend(uses::cases(&mut random, &texts));
     cases.extend(tables::cases(&mut Random::new(SEED + 2)));
+    cases.extend(bridges::cases(&mut Random::new(SEED + 3)));
     cases
 }
 
@@ -182,6 +185,17 @@ impl Case {
             ..Case::default()
         }
         .lent(room, walsh::opened(coefficients, values, room))
+    }
+
+    pub fn bridged(coefficients: &[i32], bridge: [u32; 2], room: usize) -> Case {
+        let [first, second] = bridge;
+        Case {
+            call: "bridged",
+            list: coefficients.to_vec(),
+            first: bridge.to_vec(),
+            ..Case::default()
+        }
+        .lent(room, walsh::bridged(coefficients, first, second, room))
     }
 
     pub fn circuit(text: &[u8], fault: u32, room: usize) -> Case {

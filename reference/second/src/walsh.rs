@@ -1,6 +1,6 @@
-//! The five calls on lists, written from the paper's sentences and nothing
-//! else. They give a list or a refusal; `room` is the length of the buffer
-//! that the caller would lend.
+//! The six calls on lists, written from the sentences of the paper and of note
+//! 8, and nothing else. They give a list or a refusal; `room` is the length of
+//! the buffer that the caller would lend.
 
 /// Limit of a row value, either way.
 pub const ROW_LIMIT: i32 = 1_000;
@@ -210,6 +210,58 @@ pub fn opened(coefficients: &[i32], values: &[u32], room: usize) -> Result<Vec<i
     Ok(results)
 }
 
+/// The spectrum with two inputs bridged. The four labels that differ in nothing
+/// but these inputs share the half of the sum of the two that name one of them.
+pub fn bridged(
+    coefficients: &[i32],
+    first: u32,
+    second: u32,
+    room: usize,
+) -> Result<Vec<i32>, Refusal> {
+    let n = test_length(coefficients)?;
+    // "unless I is below J and both are inputs of the list"
+    test_argument(1 <= first && first < second && second <= n as u32)?;
+    test_range(coefficients, COEFFICIENT_LIMIT)?;
+    test_room(room, coefficients.len())?;
+
+    let (i, j) = (1 << (first - 1), 1 << (second - 1));
+    let mut results = Vec::new();
+    for label in 0..coefficients.len() {
+        let without = label & !i & !j;
+        let sum = i64::from(coefficients[without + i]) + i64::from(coefficients[without + j]);
+        if sum % 2 != 0 {
+            return refuse(11, label);
+        }
+        let half = sum / 2;
+        results.push(narrow(match (label & i != 0, label & j != 0) {
+            (false, false) => {
+                let both = i64::from(coefficients[without + i + j]);
+                i64::from(coefficients[without]) + half + both
+            }
+            (true, true) => -half,
+            _ => half,
+        }));
+    }
+    Ok(results)
+}
+
+/// "Both inputs then show the AND of what is applied": the row that shows where
+/// this one is applied.
+pub fn bridged_row(row: usize, first: usize, second: usize) -> usize {
+    let both = 1 << (first - 1) | 1 << (second - 1);
+    match row & both == both {
+        true => row,
+        false => row & !both,
+    }
+}
+
+/// The rows under that bridge.
+pub fn bridged_rows(rows: &[i32], first: usize, second: usize) -> Vec<i32> {
+    (0..rows.len())
+        .map(|row| rows[bridged_row(row, first, second)])
+        .collect()
+}
+
 /// The rows of a function of n inputs; x[1] is input 1.
 pub(crate) fn rows_of(n: usize, function: impl Fn(&[bool]) -> bool) -> Vec<i32> {
     (0..1 << n)
@@ -224,6 +276,8 @@ pub(crate) fn rows_of(n: usize, function: impl Fn(&[bool]) -> bool) -> Vec<i32> 
 #[cfg(test)]
 mod tests {
     use super::*;
+    use crate::bridge_texts::EXAMPLE_ONES;
+    use crate::random::Random;
 
     fn spectrum_of(rows: &[i32]) -> Vec<i32> {
         spectrum(rows, rows.len()).expect("rows in range")
@@ -288,6 +342,114 @@ mod tests {
         for (value, sum) in [(0, 6), (1, 11)] {
             let found = opened(&spectrum, &[value], 16).expect("a spectrum of rows");
             assert_eq!((found.len(), found[0]), (16, sum), "stuck at {value}");
+        }
+    }
+
+    fn bridged_at(coefficients: &[i32], first: u32, second: u32) -> Vec<i32> {
+        bridged(coefficients, first, second, coefficients.len()).expect("whole halves")
+    }
+
+    #[test]
+    fn bridges_of_example_6_2() {
+        let mut rows = vec![0; 16];
+        for row in EXAMPLE_ONES {
+            rows[row] = 1;
+        }
+        let spectrum = spectrum_of(&rows);
+        let due = [7, 1, 3, 1, -1, -3, -1, 1, 3, 1, -1, 1, -1, 1, -1, 5];
+        assert_eq!(spectrum, due);
+        for (first, second, sum) in [
+            (1, 2, 10),
+            (1, 3, 4),
+            (1, 4, 10),
+            (2, 4, 9),
+            (2, 3, 7),
+            (3, 4, 7),
+        ] {
+            let found = bridged_at(&spectrum, first, second);
+            assert_eq!(found[0], sum, "x{first} and x{second}");
+            let sums = spectrum_of(&bridged_rows(&rows, first as usize, second as usize));
+            assert_eq!(found, sums, "x{first} and x{second}");
+        }
+    }
+
+    #[test]
+    fn bridged_rows_by_hand() {
+        assert_eq!(bridged_rows(&[1, 2, 3, 4], 1, 2), [1, 1, 1, 4]);
+        let rows = [0, 1, 2, 3, 4, 5, 6, 7];
+        assert_eq!(bridged_rows(&rows, 1, 2), [0, 0, 0, 3, 4, 4, 4, 7]);
+        assert_eq!(bridged_rows(&rows, 1, 3), [0, 0, 2, 2, 0, 5, 2, 7]);
+        assert_eq!(bridged_rows(&rows, 2, 3), [0, 1, 0, 1, 0, 1, 6, 7]);
+    }
+
+    #[test]
+    fn bridges_by_hand() {
+        let listing = [4, -2, 0, 2, -2, 0, -2, 0];
+        assert_eq!(bridged_at(&listing, 1, 3), [2, -2, 0, 0, -2, 2, 0, 0]);
+        assert_eq!(bridged_at(&[100, 20, 4, 1], 1, 2), [113, 12, 12, -12]);
+        assert_eq!(bridged_at(&[0, -3, 1, 0], 1, 2), [-1, -1, -1, 1]);
+        let most = vec![COEFFICIENT_LIMIT; 4];
+        assert_eq!(bridged_at(&most, 1, 2)[0], 6_144_000);
+        // The first label whose half is not whole, which names neither input.
+        let mut odd = vec![0, 0, 0, 0, 0, 1, 0, 0];
+        assert_eq!(bridged(&odd, 1, 2, 8), refuse(11, 4));
+        assert_eq!(bridged(&odd, 1, 3, 8), Ok(vec![1, 0, 0, 0, 0, 0, 0, 0]));
+        assert_eq!(bridged(&odd, 2, 3, 8), refuse(11, 1));
+        odd[6] = 1;
+        assert_eq!(bridged(&odd, 1, 2, 8), Ok(vec![0, 0, 0, 0, 1, 1, 1, -1]));
+        odd[2] = 1;
+        assert_eq!(bridged(&odd, 1, 2, 8), refuse(11, 0));
+    }
+
+    #[test]
+    fn bridges_of_every_pair_are_the_sums_of_bridged_rows() {
+        let mut random = Random::new(40);
+        for n in 2..=6_usize {
+            for _ in 0..20 {
+                let rows = random.list(1 << n, ROW_LIMIT);
+                let spectrum = spectrum_of(&rows);
+                for second in 2..=n {
+                    for first in 1..second {
+                        let due = spectrum_of(&bridged_rows(&rows, first, second));
+                        let found = bridged_at(&spectrum, first as u32, second as u32);
+                        assert_eq!(found, due, "{first} and {second} of {rows:?}");
+                    }
+                }
+            }
+        }
+    }
+
+    #[test]
+    fn refusals_of_a_bridge() {
+        // 9, 12, 10, 8, 11: each before all that follow it.
+        assert_eq!(bridged(&[i32::MAX; 3], 0, 0, 0), refuse(9, 0));
+        let mut list = vec![0, 1, 0, 0, 0, 0, 0, i32::MIN];
+        let bad = [
+            (0, 0),
+            (0, 1),
+            (1, 0),
+            (1, 1),
+            (2, 1),
+            (3, 3),
+            (1, 4),
+            (3, 4),
+            (4, 5),
+            (1, u32::MAX),
+            (u32::MAX, 1),
+            (u32::MAX, u32::MAX),
+        ];
+        for (first, second) in bad {
+            assert_eq!(bridged(&list, first, second, 0), refuse(12, 0));
+        }
+        for (first, second) in [(1, 2), (1, 3), (2, 3)] {
+            assert_eq!(bridged(&list, first, second, 0), refuse(10, 7));
+        }
+        list[7] = 0;
+        assert_eq!(bridged(&list, 1, 2, 7), refuse(8, 0));
+        assert_eq!(bridged(&list, 1, 2, 8), refuse(11, 0));
+        // A list of two has no such pair.
+        for second in 0..4 {
+            assert_eq!(bridged(&[0, 0], 1, second, 2), refuse(12, 0));
         }
     }
 

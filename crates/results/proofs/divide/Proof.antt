@@ -5,7 +5,7 @@ use mathlib.Core.List.{_++_}
 use Prim.Native.Nat.{ℕ, _-_, _≤_, _<_}
 use lib.IntN.{ℤ, natAbs}
 use lib.ListN.{length, drop, length-set}
-use mir.Syntax.{w32}
+use mir.Syntax.{w32, w64}
 use mir.Val.{toZ, ofZ, SFits}
 use mir.ValLaws.{toZ-ofZ}
 use native.Mathlib.Omega.{arith}
@@ -47,12 +47,12 @@ shared-slice-copy-out-sum c = search needs
 div-quotient : tie.Need-div-quotient Inv-loop μ-loop
 div-quotient c =
     let l = c .before .before in
-    quot-needs (nth (l .before .args .sums .now) (l .loop .i)) (l .before .args .divisor) (c .sum .given) (l .before .pre .0)
+    quot-needs w64 (omega arith) (nth (l .before .args .sums .now) (l .loop .i)) (l .before .args .divisor) (c .sum .given) (l .before .pre .0)
 
 cast-quotient : tie.Need-cast-quotient Inv-loop μ-loop
 cast-quotient c =
     let l = c .before .before in
-    subst⁻¹ (SFits w32) (quot-kept (nth (l .before .args .sums .now) (l .loop .i)) (l .before .args .divisor) (c .sum .given) (l .before .pre .0)) (narrow l (c .before .loop-test .taken))
+    subst⁻¹ (SFits w32) (quot-kept w64 (omega arith) (nth (l .before .args .sums .now) (l .loop .i)) (l .before .args .divisor) (c .sum .given) (l .before .pre .0)) (narrow l (c .before .loop-test .taken))
 
 mul-quotient : tie.Need-mul-quotient Inv-loop μ-loop
 mul-quotient c = search needs
@@ -73,7 +73,7 @@ loop-again c =
     let a = l .before .args in
     let i = l .loop .i in
     let z = nth (a .sums .now) i in
-    let e = quot-kept z (a .divisor) (c .sum .given) (l .before .pre .0) in (
+    let e = quot-kept w64 (omega arith) z (a .divisor) (c .sum .given) (l .before .pre .0) in (
       search needs,
       length-set (l .loop .out) i _ ∙ l .loop .inv .1,
       write-turn (a .out .now) (l .loop .out) (quotientAt (a .divisor) (a .sums .now)) i _ (omega (arith, l .before .pre .1 .0)) (l .loop .inv .2)

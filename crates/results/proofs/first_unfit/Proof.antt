@@ -43,7 +43,7 @@ divides s low high =
     let l = s .before .before .before in
     let z = nth (l .before .args .sums .now) (l .loop .i) in
     let d = l .before .args .divisor in
-    unfit-whole d low high z (rem-zero z d (s .before .sum .given) (l .before .pre) (s .if1 .left))
+    unfit-whole d low high z (rem-zero w64 (omega arith) z d (s .before .sum .given) (l .before .pre) (s .if1 .left))
 
 loop-holds : tie.Need-loop-holds Inv-loop μ-loop
 loop-holds c = (search needs, λ x h. absurd (omega arith))
@@ -59,14 +59,14 @@ rem-if1 c =
     let l = c .before .before in
     let a = l .before .args in
     let z = nth (a .sums .now) (l .loop .i) in
-    quot-needs z (a .divisor) (c .sum .given) (l .before .pre)
+    quot-needs w64 (omega arith) z (a .divisor) (c .sum .given) (l .before .pre)
 
 returns : tie.Need-returns Inv-loop μ-loop
 returns c =
     let l = c .before .before .before in
     let a = l .before .args in
     let z = nth (a .sums .now) (l .loop .i) in
-    let e = unfit-left (a .divisor) (back (a .low)) (back (a .high)) z (λ k. c .if1 .taken (zero-rem z (a .divisor) (c .before .sum .given) (l .before .pre) k)) in
+    let e = unfit-left (a .divisor) (back (a .low)) (back (a .high)) z (λ k. c .if1 .taken (zero-rem w64 (omega arith) z (a .divisor) (c .before .sum .given) (l .before .pre) k)) in
     ended l (l .loop .i) (found-unfit (a .divisor) (back (a .low)) (back (a .high)) (a .sums .now) (l .loop .i) (c .before .before .loop-test .taken) (l .loop .inv .1) e)
 
 div-quotient : tie.Need-div-quotient Inv-loop μ-loop
@@ -74,14 +74,14 @@ div-quotient c =
     let l = c .before .before .before in
     let a = l .before .args in
     let z = nth (a .sums .now) (l .loop .i) in
-    quot-needs z (a .divisor) (c .before .sum .given) (l .before .pre)
+    quot-needs w64 (omega arith) z (a .divisor) (c .before .sum .given) (l .before .pre)
 
 returns-2 : tie.Need-returns-2 Inv-loop μ-loop
 returns-2 c =
     let l = c .before .before .before .before in
     let a = l .before .args in
     let z = nth (a .sums .now) (l .loop .i) in
-    let q = sym (quot-kept z (a .divisor) (c .before .before .sum .given) (l .before .pre)) in
+    let q = sym (quot-kept w64 (omega arith) z (a .divisor) (c .before .before .sum .given) (l .before .pre)) in
     let e = divides (c .before) (back (a .low)) (back (a .high)) ∙ outside-low (back (a .low)) (back (a .high)) _ (ap (λ (y : ℤ). ltZ y (back (a .low))) q ∙ c .if2 .taken) in
     ended l (l .loop .i) (found-unfit (a .divisor) (back (a .low)) (back (a .high)) (a .sums .now) (l .loop .i) (c .before .before .before .loop-test .taken) (l .loop .inv .1) e)
 
@@ -90,7 +90,7 @@ returns-3 c =
     let l = c .before .before .before .before .before in
     let a = l .before .args in
     let z = nth (a .sums .now) (l .loop .i) in
-    let q = sym (quot-kept z (a .divisor) (c .before .before .before .sum .given) (l .before .pre)) in
+    let q = sym (quot-kept w64 (omega arith) z (a .divisor) (c .before .before .before .sum .given) (l .before .pre)) in
     let e = divides (c .before .before) (back (a .low)) (back (a .high)) ∙ outside-high (back (a .low)) (back (a .high)) _ (ap (λ (y : ℤ). ltZ (back (a .high)) y) q ∙ c .if3 .taken) in
     ended l (l .loop .i) (found-unfit (a .divisor) (back (a .low)) (back (a .high)) (a .sums .now) (l .loop .i) (c .before .before .before .before .loop-test .taken) (l .loop .inv .1) e)
 
@@ -108,7 +108,7 @@ loop-again c =
     let z = nth (a .sums .now) (l .loop .i) in
     let low = back (a .low) in
     let high = back (a .high) in
-    let q = sym (quot-kept z (a .divisor) (c .before .before .before .sum .given) (l .before .pre)) in
+    let q = sym (quot-kept w64 (omega arith) z (a .divisor) (c .before .before .before .sum .given) (l .before .pre)) in
     let e = divides (c .before .before) low high ∙ outside-none low high _ (ap (λ (y : ℤ). ltZ y low) q ∙ c .before .if2 .left) (ap (λ (y : ℤ). ltZ high y) q ∙ c .if3 .left) in
     (search needs, below-more _ _ (l .loop .inv .1) e)
 

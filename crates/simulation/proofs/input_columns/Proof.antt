@@ -18,6 +18,12 @@ abbrev μ-loop : tie.MeasureT-loop
 loop-holds : tie.Need-loop-holds Inv-loop μ-loop
 loop-holds c = (search needs, refl, c .before .pre .3)
 
+source-requires : tie.Need-source-requires Inv-loop μ-loop
+source-requires c κs = search needs
+
+source-requires-2 : tie.Need-source-requires-2 Inv-loop μ-loop
+source-requires-2 c κs = search needs
+
 add-through : tie.Need-add-through Inv-loop μ-loop
 add-through c = search needs
 
@@ -36,12 +42,14 @@ loop-less c = search needs
 loop-again : tie.Need-loop-again Inv-loop μ-loop
 loop-again c =
     let k = c .before .before in
-    let l = k .before .before .before .before in
+    let p = k .before .before .before .before in
+    let l = p .before .before in
     let s = l .before .before in
     let a = s .args in (
-      omega (arith, k .before .before .before .loop-test .taken),
+      omega (arith, p .before .loop-test .taken),
       search needs,
-      input-next (a .f) (a .n) (s .pre .2) (l .loop .i) (k .before .through .result) (k .before .through .ensures) (l .loop .inv .2) (k .input-column .ensures),
+      input-next (a .f) (a .n) (s .pre .2) (l .loop .i) (k .before .through .result) (k .before .through .ensures) (p .source .ensures .0)
+          (k .before .before .before .source2 .ensures .0) (l .loop .inv .2) (k .input-column .ensures),
     )
 
 same-length : tie.Need-same-length Inv-loop μ-loop
@@ -61,6 +69,8 @@ input-columns-spec =
     Inv-loop
     μ-loop
     loop-holds
+    source-requires
+    source-requires-2
     add-through
     through-requires
     input-column-requires

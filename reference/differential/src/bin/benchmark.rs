@@ -1,10 +1,10 @@
 //! Times the library's whole-list calls on 2,048 numbers against the second
 //! implementation's direct ones and, for the spectrum, a plain fast transform; then
 //! its circuit call against rows one by one and that transform, its plan and
-//! report calls on a circuit and on a table against the same with a choice of
-//! labels that is cut short, its reading and pair calls against a plain mean of
-//! those rows, and the program `signature` on the listing, from its start to its
-//! end, against `report`.
+//! report calls on a circuit and on a table, and its plan call on both with
+//! bridges, against the same with a choice of labels that is cut short, its
+//! reading and pair calls against a plain mean of those rows, and the program
+//! `signature` on the listing, from its start to its end, against `report`.
 
 use differential::{fast, library};
 use second::circuits::{worst_search, Draft, Sizes, LISTING};
@@ -14,7 +14,7 @@ use second::reading::Reading;
 use second::report::{self, REPORT_ROOM};
 use second::table_texts;
 use second::walsh::ROW_LIMIT;
-use second::{devices, netlist, reading, walsh};
+use second::{bridge_texts, devices, netlist, reading, walsh};
 use std::hint::black_box;
 use std::io::Write;
 use std::path::{Path, PathBuf};
@@ -141,14 +141,18 @@ fn main() {
     let mut random = Random::new(2048);
     let rows = random.list(LENGTH, ROW_LIMIT);
     let spectrum = walsh::spectrum(&rows, LENGTH).expect("rows in range");
-    let (inputs, values) = ([2, 5, 11], [0, 1, 1]);
+    let (inputs, values, bridge) = ([2, 5, 11], [0, 1, 1], [2, 11]);
     check(&rows, &spectrum, &inputs, &values);
+    check_bridge(&spectrum, bridge);
     let text = Draft::draw(&mut random, Sizes::LARGEST).text();
     let faults = check_circuit(&text);
     let planned = planned_text(&mut random);
     let table = table_texts::largest().text();
-    check_plan(&planned);
-    check_plan(&table);
+    let bridges = bridged_text(&mut random);
+    let table_bridges = bridged_table();
+    for text in [&planned, &table, &bridges, &table_bridges] {
+        check_plan(text);
+    }
     let worst = worst_search().text();
     check_worst_search(&worst);
     check_readings(&text, faults);
@@ -157,15 +161,17 @@ fn main() {
 
     let (rows, spectrum, text) = (&rows[..], &spectrum[..], &text[..]);
     let (planned, table, worst) = (&planned[..], &table[..], &worst[..]);
+    let (bridges, table_bridges) = (&bridges[..], &table_bridges[..]);
     // One buffer for each contender, so that none meets another's result.
-    let mut buffers = vec![vec![0; LENGTH]; 7];
+    let mut buffers = vec![vec![0; LENGTH]; 8];
     let mut lend = buffers.iter_mut();
     let mut buffer = || lend.next().expect("a buffer for each contender");
     let (to_spectrum, to_fast, to_rows) = (buffer(), buffer(), buffer());
-    let (to_stuck, to_opened) = (buffer(), buffer());
+    let (to_stuck, to_opened, to_bridged) = (buffer(), buffer(), buffer());
     let (to_circuit, to_fast_circuit) = (buffer(), buffer());
-    let mut working = [(); 5].map(|_| vec![0; WORKING_NUMBERS]);
-    let [to_plan, to_search, to_report, to_table_plan, to_table_report] = &mut working;
+    let mut working = [(); 7].map(|_| vec![0; WORKING_NUMBERS]);
+    let [to_plan, to_search, to_report, to_table_plan, to_table_report, to_bridges, to_table_bridges] =
+        &mut working;
     let mut bytes = [(); 2].map(|_| vec![0; REPORT_ROOM]);
     let [to_bytes, to_table_bytes] = &mut bytes;
 
@@ -223,6 +229,18 @@ fn main() {
             })],
         },
         Race {
+            name: "bridge on 2,048 coefficients",
+            library: Contender::new("library", move || {
+                let [first, second] = black_box(bridge);
+                let out = black_box(&mut *to_bridged);
+                black_box(library::bridged(black_box(spectrum), first, second, out));
+            }),
+            others: vec![Contender::new("second, halves of sums", move || {
+                let [first, second] = black_box(bridge);
+                let _ = black_box(walsh::bridged(black_box(spectrum), first, second, LENGTH));
+            })],
+        },
+        Race {
             name: "circuit, sound and 32 faults",
             library: Contender::new("library", move || {
                 for fault in 0..=faults {
@@ -246,6 +264,8 @@ fn main() {
             to_table_bytes,
             to_table_report,
         ),
+        plan_race("plan, circuit of 32 bridges", bridges, to_bridges),
+        plan_race("plan, table of 28 bridges", table_bridges, to_table_bridges),
         Race {
             name: "reading, largest circuit",
             library: Contender::new("library", move || {
@@ -359,10 +379,21 @@ fn check(rows: &[i32], spectrum: &[i32], inputs: &[u32], values: &[u32]) {
     assert_eq!(out[..due.len()], due, "the results for opened lines differ");
 }
 
+/// The same for a bridge.
+fn check_bridge(spectrum: &[i32], [first, second]: [u32; 2]) {
+    let mut out = vec![0; LENGTH];
+    assert_eq!(
+        library::bridged(spectrum, first, second, &mut out).number,
+        0
+    );
+    let due = walsh::bridged(spectrum, first, second, LENGTH);
+    assert_eq!(Ok(out), due, "the results for a bridge differ");
+}
+
 /// The same for a circuit; gives the number of its faults.
 fn check_circuit(text: &[u8]) -> u32 {
     let netlist = netlist::parse(text).expect("a good circuit");
-    let three_lines = netlist.faults.iter().filter(|fault| fault.len() == 3);
+    let three_lines = netlist.faults.iter().filter(|f| f.stuck().len() == 3);
     assert!(three_lines.count() > 0, "no fault has three lines");
     let faults = netlist.faults.len() as u32;
     for fault in 0..=faults {
@@ -393,6 +424,29 @@ fn planned_text(random: &mut Random) -> Vec<u8> {
             return text;
         }
     }
+}
+
+/// A circuit of the largest size whose 32 faults are bridges: eight inputs have
+/// 28, and four stand twice. Its plan has more than one label.
+fn bridged_text(random: &mut Random) -> Vec<u8> {
+    loop {
+        let text = bridge_texts::largest_circuit(random).text();
+        if fast::plan(&text, WORKING_NUMBERS).is_ok_and(|set| set.len() > 1) {
+            return text;
+        }
+    }
+}
+
+/// The largest table with these 28 bridges and four stuck inputs; its plan has
+/// four labels.
+fn bridged_table() -> Vec<u8> {
+    let table = table_texts::largest();
+    let mut faults = bridge_texts::every_bridge(8);
+    faults.extend_from_slice(&table.faults()[..4]);
+    let text = table.with_faults(&faults, CAP_LIMIT).text();
+    let labels = fast::plan(&text, WORKING_NUMBERS).map(|set| set.len());
+    assert_eq!(labels, Ok(CAP_LIMIT));
+    text
 }
 
 /// The same for the plan and the report on a text.

@@ -30,7 +30,7 @@ fn fault(random: &mut Random, n: usize) -> (Vec<u32>, Vec<u32>) {
 }
 
 /// A lent result's length: exact or longer.
-fn room(random: &mut Random, due: usize) -> usize {
+pub fn room(random: &mut Random, due: usize) -> usize {
     due + random.pick(&[0, 0, 1, 8])
 }
 
@@ -91,7 +91,7 @@ fn rooms(random: &mut Random) -> Vec<Case> {
 }
 
 /// Both ends of a range, the numbers after them, and those farthest off.
-fn ends(limit: i32) -> [i32; 6] {
+pub fn ends(limit: i32) -> [i32; 6] {
     [limit, -limit, limit + 1, -limit - 1, i32::MAX, i32::MIN]
 }
 

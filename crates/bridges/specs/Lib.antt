@@ -1,0 +1,2 @@
+pub mod BridgeArguments
+pub mod Bridges
