@@ -55,7 +55,7 @@ enum walsh_number {
     WALSH_TEXT_TOO_LONG = 1,
     WALSH_MALFORMED_LINE = 2,        /* place: the line of the text, from 1, in 3 to 7, 15 and 19 too; malformed, missing or without its line end */
     WALSH_NUMBER_OUT_OF_RANGE = 3,   /* place: the line */
-    WALSH_GATE_READS_AHEAD = 4,      /* place: the line; the gate reads its own or a later line */
+    WALSH_GATE_READS_AHEAD = 4,      /* place: the line; the gate reads its own or a later line, in any of its fields */
     WALSH_NO_SUCH_LINE = 5,          /* place: the line; an output or a stuck line is above the last (a table: above N); outside 1 to 56: 3 */
     WALSH_LINES_NOT_RISING = 6,      /* place: the line, a fault's of stuck lines */
     WALSH_BYTES_AFTER_TEXT = 7,      /* place: the line after the last that was due */
@@ -140,8 +140,9 @@ struct walsh_part {
 
 /* Calls on a text. walsh_plan, walsh_report and walsh_circuit take circuits and tables. Of a table all rows and coefficients are doubled, in all
    three: a row is 2 where its mark is `1`, 1 where it is `-` (a free row), 0 where it is `0`. walsh_reading and walsh_pair take circuits only: a
-   table is refused by 1 where it is too long, and else by 2 at line 1, whatever stands in its lines. A fault of either text is one to three stuck
-   lines or a bridge: two inputs that both show the AND of what is applied to them, wherever they are read. The numbers of the faults count both. */
+   table is refused by 1 where it is too long, and else by 2 at line 1, whatever stands in its lines. A gate of a circuit reads two, three or four
+   lines, a `not` one. A fault of either text is one to three stuck lines or a bridge: two inputs that both show the AND of what is applied to them,
+   wherever they are read. The numbers of the faults count both. */
 
 /* Plans the circuit or table: the first shortest set of labels, within the text's cap, that shows every fault. What the first
    WALSH_WORKING_NUMBERS of `work` hold after a plan, 13 or 14 may be anything; later ones stay.

@@ -1,8 +1,8 @@
 /*
- * Every function of include/walsh.h, done and refused, each answer field by field. tests/run compiles it as C99 and as C++ and holds what it prints
- * to tests/calls.expected, which was worked out by hand from document 01, for tables and bridges from notes 1 and 8 of document 02, and not taken
- * from the library. The comments say where answers come from; "paper" is document 01. Places where a result is lent hold MARK before each call, so
- * a number too many or too few shows.
+ * Every function of include/walsh.h, done and refused, each answer field by field. tests/run compiles it as C99 and as C++ and holds what it
+ * prints to tests/calls.expected, which was worked out by hand from document 01, for tables, wide gates and bridges from notes 1, 2 and 8 of
+ * document 02, and not taken from the library. The comments say where answers come from; "paper" is document 01. Places where a result is lent
+ * hold MARK before each call, so a number too many or too few shows.
  */
 #include <stdio.h>
 #include <string.h>
@@ -66,6 +66,11 @@ static struct walsh_part (*const field)(const uint8_t *, size_t, size_t) = walsh
 /* Example 6.2 of source document 004 (ones at rows 0, 3, 4, 5, 6, 9, 12 of 16) with its bridges; FIRST stands for the line of the first. */
 #define BRIDGED_TABLE_OF(FIRST) "table,4,3,2\n" "1001111001001000\n" FIRST "\n" "bridge,2,3\n" "bridge,3,4\n"
 #define BRIDGED_TABLE BRIDGED_TABLE_OF("bridge,1,2")
+
+/* x1x2x3 by one gate, x1 stuck at 0 and then the gate's line at 1: 1 on row 7 of 8, on none, on all. */
+#define WIDE_AND "circuit,3,1,1,2,1\ngate,and,1,2,3\noutput,4,1\nfault,1,0\nfault,4,1\n"
+/* Four inputs and one gate, which drives line 5 and is stuck at 0. */
+#define WIDE_OF(GATE) "circuit,4,1,1,1,1\n" GATE "\noutput,5,1\nfault,5,0\n"
 
 static int32_t out[2 * WALSH_MAX_LIST];
 static int32_t list[2 * WALSH_MAX_LIST];
@@ -662,6 +667,38 @@ static void bridges(void)
     put_comparison("pair, bad bridge and fault 3", pair(TEXT(LISTING_OF("fault,2,0", "bridge,2,1")), 3, 0, 0));
 }
 
+/* Gates of three and four lines. */
+static void wide_gates(void)
+{
+    size_t all = WALSH_WORKING_NUMBERS;
+
+    put_reply("gate, and of three", circuit(TEXT(WIDE_AND), 0, out, 9), 9);
+    put_reply("gate, and of three, fault 1", circuit(TEXT(WIDE_AND), 1, out, 9), 9);
+    put_reply("gate, and of three, fault 2", circuit(TEXT(WIDE_AND), 2, out, 9), 9);
+    put_signature("plan, and of three", plan(TEXT(WIDE_AND), work, all));
+    put_written("report, and of three", report(TEXT(WIDE_AND), bytes, sizeof bytes, work, all));
+    put_measured("reading, and of three", reading(TEXT(WIDE_AND), 0, 0));
+    put_comparison("pair, and of three, fault 2", pair(TEXT(WIDE_AND), 2, 0, 0));
+    /* The parity of four inputs: 8 ones, and all rows of odd parity at label 15. */
+    put_reply("gate, xor of four", circuit(TEXT(WIDE_OF("gate,xor,1,2,3,4")), 0, out, 17), 17);
+    put_reply("gate, xnor of three", circuit(TEXT(WIDE_OF("gate,xnor,1,2,3")), 0, out, 17), 9);
+    /* 1 on row 0 alone. */
+    put_reply("gate, nor of four", circuit(TEXT(WIDE_OF("gate,nor,1,2,3,4")), 0, out, 17), 17);
+    /* Not x1x2: 12 of 16 rows, and the opposite of what x1x2 has elsewhere. */
+    put_reply("gate, nand of lines read twice", circuit(TEXT(WIDE_OF("gate,nand,1,2,1,2")), 0, out, 17), 4);
+
+    put_refusal("gate, one line", WIDE_OF("gate,and,1"));
+    put_refusal("gate, five lines", WIDE_OF("gate,and,1,2,3,4,1"));
+    put_refusal("gate, a comma more", WIDE_OF("gate,and,1,2,"));
+    put_refusal("gate, not of three fields", WIDE_OF("gate,not,1,0,2"));
+    put_refusal("gate, not of two lines", WIDE_OF("gate,not,1,2"));
+    put_refusal("gate, line 0", WIDE_OF("gate,or,1,2,0"));
+    put_refusal("gate, line 57", WIDE_OF("gate,or,1,2,3,57"));
+    put_refusal("gate, its own line", WIDE_OF("gate,or,1,2,3,5"));
+    /* 3 comes before 4, over all fields. */
+    put_refusal("gate, a later line and line 57", WIDE_OF("gate,or,6,2,3,57"));
+}
+
 static void fields(void)
 {
     put_part("field 0", field(TEXT("circuit,3,48"), 0));
@@ -698,6 +735,7 @@ int main(void)
     table_plans();
     tables_unread();
     bridges();
+    wide_gates();
     fields();
     return 0;
 }

@@ -18,7 +18,7 @@ use Rattle.netlist.specs.Circuits.{Netlist, faultAt}
 use Rattle.netlist.specs.Parsing.{accepted, parseOf}
 use Rattle.netlist.proofs.Acceptance.{well-formed}
 use Rattle.sections.specs.FaultLines.{BridgeFault}
-use Rattle.gates.specs.Gates.{shown, applied}
+use Rattle.columns.specs.Shown.{shown, applied}
 use Rattle.simulation.specs.Rows.{inputShown, rowValue, rowsOf}
 use Rattle.simulation.proofs.RowBounds.{length-rows}
 use Rattle.simulation.proofs.Showing.{sound-keeps, unbridged-shown, BridgeShows, bridge-shows}

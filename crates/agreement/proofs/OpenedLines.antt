@@ -22,7 +22,7 @@ use Rattle.netlist.specs.Parsing.{accepted, parseOf}
 use Rattle.sections.specs.FaultLines.{StuckFault}
 use Rattle.netlist.specs.WellFormed.{WellFormed, topOf}
 use Rattle.netlist.proofs.Acceptance.{well-formed}
-use Rattle.gates.specs.Gates.{shown, appliedUnder}
+use Rattle.columns.specs.Shown.{shown, appliedUnder}
 use Rattle.simulation.specs.Rows.{rowValue, rowsOf}
 use Rattle.simulation.proofs.RowBounds.{row-within}
 use Rattle.statements.specs.Items.{noBridge}

@@ -8,7 +8,7 @@ use Prim.Native.Nat.{ℕ, _≤_}
 use native.Mathlib.Omega.{arith}
 use lib.Dec.{eqb}
 use borrow.Author.Tests.{ne-eqb, eqb-true}
-use Rattle.gates.specs.Gates.{stuckOr, shown}
+use Rattle.columns.specs.Shown.{stuckOr, shown}
 use Rattle.lookup.specs.StuckPairs.{withPair, presentPairs, bitFor}
 use Rattle.statements.specs.declared.Fault.{Fault}
 use Rattle.statements.specs.declared.Pair.{Pair}

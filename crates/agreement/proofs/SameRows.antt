@@ -9,12 +9,11 @@ use lib.ListN.{length}
 use Rattle.integer.specs.Sum.{sumTo}
 use Rattle.integer.proofs.Tabs.{tab-ext}
 use Rattle.netlist.specs.Circuits.{Netlist}
-use Rattle.gates.specs.Gates.{shown}
-use Rattle.simulation.specs.Rows.{inputShown, inputValues, gateNext, gatesNext, lineValues, outputTerm, rowValue}
-use Rattle.simulation.proofs.Equations.{gateIn}
+use Rattle.columns.specs.Shown.{shown}
+use Rattle.simulation.specs.Rows.{inputShown, inputValues, gateNext, gatesNext, lineValues, outputTerm, rowValue, gateIn}
 use Rattle.simulation.proofs.LineValues.{length-inputs, length-next}
 use Rattle.statements.specs.declared.Fault.{Fault}
-use Rattle.statements.specs.declared.Gate.{Gate}
+use Rattle.gate_lines.specs.declared.Gate.{Gate}
 
 -- the faults treat the lines above the inputs alike
 module _ (n : Netlist) (f g : Fault) (above : (line : ℕ) (v : Bool) → n .inputs < line → shown f line v ≡ shown g line v) where

@@ -20,7 +20,7 @@ use Rattle.netlist.specs.Parsing.{accepted, parseOf}
 use Rattle.sections.specs.FaultLines.{Above, StuckFault}
 use Rattle.netlist.specs.WellFormed.{topOf}
 use Rattle.netlist.proofs.Acceptance.{well-formed}
-use Rattle.gates.specs.Gates.{stuckOr, shown, applied}
+use Rattle.columns.specs.Shown.{stuckOr, shown, applied}
 use Rattle.simulation.specs.Rows.{inputShown, rowValue, rowsOf}
 use Rattle.simulation.proofs.RowBounds.{length-rows}
 use Rattle.simulation.proofs.Showing.{others-keep, sound-keeps, unbridged-shown}

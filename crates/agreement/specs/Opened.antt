@@ -6,7 +6,7 @@ use lib.IntN.{ℤ}
 use lib.ListN.{length}
 use Rattle.integer.specs.Tab.{tab}
 use Rattle.netlist.specs.Circuits.{Netlist}
-use Rattle.gates.specs.Gates.{applied}
+use Rattle.columns.specs.Shown.{applied}
 use Rattle.simulation.specs.Rows.{rowValue}
 use Rattle.statements.specs.declared.Fault.{Fault}
 use Rattle.statements.specs.declared.Pair.{Pair}

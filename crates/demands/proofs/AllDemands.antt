@@ -9,9 +9,14 @@ use mathlib.Core.Logic.{_↔_, _⊎_, inl, inr, ⊎-elim}
 use Prim.Native.Nat.{ℕ, _≤_}
 use native.Mathlib.Omega.{arith}
 use Rattle.statements.specs.Lines.{bridgeWord, namesBridge}
+use Rattle.gate_lines.proofs.FourFields.{four-fields}
+use Rattle.gates.proofs.TwoBits.{two-as-before}
 use Rattle.sections.proofs.BridgesWritten.{lines-as-before}
-use Rattle.statements.proofs.FormsMeant.{head-form, gate-form, output-form, fault-form, bridge-form, fault-line-form}
-use Rattle.statements.proofs.LineNumbers.{head-least, gate-least, output-least, fault-least, bridge-least}
+use Rattle.netlist.proofs.NarrowGates.{gates-as-before}
+use Rattle.statements.proofs.FormsMeant.{head-form, output-form, fault-form, bridge-form, fault-line-form}
+use Rattle.gate_lines.proofs.GateFormsMeant.{gate-form}
+use Rattle.statements.proofs.LineNumbers.{head-least, output-least, fault-least, bridge-least}
+use Rattle.gate_lines.proofs.GateNumbers.{gate-least}
 use Rattle.netlist.specs.Circuits.{Netlist}
 use Rattle.netlist.specs.Places.{CircuitLineNumber}
 use Rattle.netlist.specs.Parsing.{Parse, accepted, rejected, parseOf}
@@ -40,7 +45,7 @@ use Rattle.devices.proofs.Descriptions.{table-text, circuit-text}
 use Rattle.devices.proofs.TextKinds.{table-unparsed}
 use Rattle.report.proofs.PrintedLabels.{printed-covers, printed-line}
 use Rattle.fixture.proofs.Exactly.{reading-exact, pair-exact}
-use Rattle.demands.specs.DemandOne.{TextsAnswered, TablesAnswered, KindsTold, BridgesTold, LinesNumbered, DemandOne}
+use Rattle.demands.specs.DemandOne.{TextsAnswered, TablesAnswered, KindsTold, GatesTold, BridgesTold, LinesNumbered, DemandOne}
 use Rattle.demands.specs.DemandTwo.{DemandTwo}
 use Rattle.demands.specs.Demands.{Demands}
 use Rattle.demands.proofs.ListCalls.{spectrum-tested, rows-tested, coefficient-tested, stuck-tested, opened-tested, bridged-tested, writes-of, spectrum-zero, rows-zero, stuck-zero, opened-zero, bridged-zero, coefficient-zero}
@@ -121,6 +126,9 @@ bridges-told =
       as-before = λ inputs top count place rest plain. lines-as-before inputs top count place rest [] plain;
     }
 
+gates-told : GatesTold
+gates-told = record { four-fields = four-fields; as-before = gates-as-before }
+
 lines-numbered : (l : List ℕ) → LinesNumbered l
 lines-numbered l =
     record {
@@ -139,6 +147,7 @@ demand-one =
       texts = texts-answered;
       tables = tables-answered;
       kinds = kinds-told;
+      gate-lines = gates-told;
       bridge-lines = bridges-told;
       lines = record { head = head-form; gate = gate-form; output = output-form; fault = fault-form; bridge = bridge-form; fault-line = fault-line-form; table-head = table-head-form; marks = mark-form };
       numbers = lines-numbered;
@@ -179,6 +188,7 @@ pub demand-two : DemandTwo
 demand-two =
     record {
       spectra = spectra-right;
+      gate-rule = two-as-before;
       faults = faulty-spectra-right;
       circuits = circuits-right;
       tables = tables-right;

@@ -39,6 +39,7 @@ use Rattle.tables.specs.Tables.{TruthTable, tableFaultAt}
 use Rattle.tables.specs.TableParsing.{acceptedTable, tableOf}
 use Rattle.tables.proofs.TableAcceptance.{table-right}
 use Rattle.lookup.specs.TableRows.{tableRow}
+use Rattle.simulation.proofs.Equations.{input-lines, gate-lines}
 use Rattle.simulation.proofs.Showing.{unbridged-shown}
 use Rattle.lookup.proofs.RowsOfTables.{sound-mark, table-row-is, stuck-row-is}
 use Rattle.lookup.proofs.FreeRows.{free-rows-half}
@@ -106,6 +107,8 @@ circuits-right text n e =
     record {
       rows = λ k x h. getD-tab (2 ^ n .inputs) (rowValue n (faultAt n k)) (pos 0) x h;
       spectrum = circuit-spectrum-is text n e;
+      input-lines = λ k x i h. input-lines n (faultAt n k) x i h;
+      gate-lines = λ k x j h. gate-lines n (faultAt n k) x j (well-formed text n e) h;
       unbridged = λ k x i none. unbridged-shown (faultAt n k) x i none;
       stuck-inputs = λ k named unbridged inputs-only. stuck-inputs-agree text n e k (named .0) (named .1) unbridged inputs-only;
       opened-lines = λ k named unbridged. opened-lines-agree text n e k (named .0) (named .1) unbridged;

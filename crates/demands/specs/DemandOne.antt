@@ -11,8 +11,10 @@ use mathlib.Core.Path.{_≡_}
 use lib.IntN.{ℤ, pos}
 use lib.ListN.{length, drop}
 use Rattle.fields.specs.Fields.{LeastFailing}
-use Rattle.statements.specs.LineForms.{HeadForm, GateForm, OutputForm, FaultForm, BridgeForm, FaultLineForm}
-use Rattle.statements.specs.Lines.{headTests, headRefusal, gateTests, gateRefusal, outputTests, outputRefusal, faultTests, faultRefusal, faultOf, bridgeTests, bridgeRefusal, namesBridge, faultLineOf}
+use Rattle.statements.specs.LineForms.{HeadForm, OutputForm, FaultForm, BridgeForm, FaultLineForm}
+use Rattle.gate_lines.specs.GateForms.{GateForm}
+use Rattle.statements.specs.Lines.{headTests, headRefusal, outputTests, outputRefusal, faultTests, faultRefusal, faultOf, bridgeTests, bridgeRefusal, namesBridge, faultLineOf}
+use Rattle.gate_lines.specs.GateLines.{gateTests, gateRefusal, gateOf, narrowRefusal, narrowOf}
 use Rattle.sections.specs.FaultLines.{nthFaultRefusal, nthStuckRefusal}
 use Rattle.sections.specs.Sections.{linesFrom, linesOf}
 use Rattle.screen.specs.Answers.{answerNumber, answerPlace}
@@ -24,7 +26,7 @@ use Rattle.faults.specs.Faults.{bitOf, stuckAnswer, openedAnswer}
 use Rattle.bridges.specs.Bridges.{bridgedAnswer}
 use Rattle.netlist.specs.Circuits.{Netlist}
 use Rattle.netlist.specs.CircuitText.{textOf}
-use Rattle.netlist.specs.Parsing.{accepted, rejected, parseOf}
+use Rattle.netlist.specs.Parsing.{nthGateRefusal, nthNarrowRefusal, accepted, rejected, parseOf}
 use Rattle.netlist.specs.Places.{LineFails, BytesFollow, NoneApplies}
 use Rattle.netlist.specs.WellFormed.{WellFormed}
 use Rattle.tables.specs.TableForms.{TableHeadForm, MarkForm}
@@ -37,7 +39,7 @@ use Rattle.tables.specs.Tables.{TruthTable}
 use Rattle.devices.specs.Describing.{described, refusedAt, descriptionOf}
 use Rattle.devices.specs.Devices.{circuitProblem, tableProblem}
 use Rattle.devices.specs.Problems.{Problem}
-use Rattle.text.specs.Text.{bytesOf, before, fieldOf, lineEnd}
+use Rattle.text.specs.Text.{bytesOf, before, fieldOf, fieldCount, lineEnd}
 use Rattle.circuit.specs.CircuitCall.{circuitAnswer}
 use Rattle.planner.specs.PlanCall.{planVerdict, planAnswer, WorkKept}
 use Rattle.report_lines.specs.ReportLines.{refusedLine}
@@ -57,7 +59,7 @@ pub record TextsAnswered (text : List ℕ) : Type 0 where
   pub accept : (n : Netlist) → (parseOf text ≡ accepted n) ↔ (WellFormed n × (text ≡ textOf n))
   -- "A text is accepted exactly when none of 1 to 7 applies", nor 19
   pub none-applies : ((n : Netlist) × (parseOf text ≡ accepted n)) ↔ NoneApplies text
-  pub short : (n : Netlist) → parseOf text ≡ accepted n → length text ≤ 1512
+  pub short : (n : Netlist) → parseOf text ≡ accepted n → length text ≤ 1800
 
 -- the same of tables (document 02, notes 1 and 8): 2, 3, 5, 6 and 19 at a line, 15 at line 2, 7 at the line after the last
 pub record TablesAnswered (text : List ℕ) : Type 0 where
@@ -86,6 +88,14 @@ pub record BridgesTold : Type 0 where
   pub word : (l : List ℕ) → (namesBridge l ≡ true) ↔ (fieldOf l 0 ≡ bytesOf "bridge")
   pub as-before : (inputs top count place : ℕ) (rest : List ℕ) → ((k : ℕ) → k < count → namesBridge (before lineEnd (linesFrom k rest)) ≡ false)
       → linesOf (nthFaultRefusal inputs top) faultLineOf count place rest [] ≡ linesOf (nthStuckRefusal top) faultOf count place rest []
+
+-- a gate's line of four fields is answered as document 01 has it, and so are gate lines of which none has five or six (document 02, note 2): "Texts with two fields
+-- give the answers they gave."
+pub record GatesTold : Type 0 where
+  pub four-fields : (own : ℕ) (l : List ℕ) → fieldCount l ≡ 4 → (gateRefusal own l ≡ narrowRefusal own l) × (gateOf l ≡ narrowOf l)
+  pub as-before : (inputs count place : ℕ) (rest : List ℕ)
+      → ((k : ℕ) → k < count → (fieldCount (before lineEnd (linesFrom k rest)) ≡ 5 → ⊥) × (fieldCount (before lineEnd (linesFrom k rest)) ≡ 6 → ⊥))
+      → linesOf (nthGateRefusal inputs) gateOf count place rest [] ≡ linesOf (nthNarrowRefusal inputs) narrowOf count place rest []
 
 -- what each kind of line is tested for, by what it is written from
 pub record LinesTested : Type 0 where
@@ -137,6 +147,7 @@ pub record DemandOne : Type 0 where
   pub texts : (text : List ℕ) → TextsAnswered text
   pub tables : (text : List ℕ) → TablesAnswered text
   pub kinds : (text : List ℕ) → KindsTold text
+  pub gate-lines : GatesTold
   pub bridge-lines : BridgesTold
   pub lines : LinesTested
   pub numbers : (l : List ℕ) → LinesNumbered l

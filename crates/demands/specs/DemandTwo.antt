@@ -22,10 +22,12 @@ use Rattle.walsh.specs.Lists.{spectrumAnswer, inverseRows, rowsAnswer}
 use Rattle.faults.specs.Faults.{stuckOf, stuckAnswer, stuckSpectrumOf, stuckRows, keptInputs, openedAnswer, openedSpectrumOf, openedRows, replacedAll, bridgedRows}
 use Rattle.bridges.specs.Bridges.{bridgedAnswer, bridgedSpectrumOf}
 use Rattle.statements.specs.Items.{noOutput, noBridge, sound}
+use Rattle.gate_lines.specs.GateItems.{noGate}
+use Rattle.gates.specs.Gates.{TwoAsBefore}
 use Rattle.netlist.specs.Circuits.{Netlist, faultAt}
 use Rattle.netlist.specs.Parsing.{accepted, parseOf}
-use Rattle.gates.specs.Gates.{applied, shown}
-use Rattle.simulation.specs.Rows.{inputShown, rowValue, rowsOf}
+use Rattle.columns.specs.Shown.{applied, shown, appliedUnder}
+use Rattle.simulation.specs.Rows.{inputShown, reads, gateIn, lineValues, rowValue, rowsOf}
 use Rattle.tables.specs.Tables.{TruthTable, tableFaultAt}
 use Rattle.tables.specs.TableParsing.{acceptedTable, tableOf}
 use Rattle.lookup.specs.FreeRows.{onesWith, freeWith}
@@ -67,6 +69,10 @@ pub record FaultySpectraRight : Type 0 where
 pub record CircuitsRight (text : List ℕ) (n : Netlist) : Type 0 where
   pub rows : (k x : ℕ) → x < 2 ^ n .inputs → nth (rowsOf n (faultAt n k)) x ≡ rowValue n (faultAt n k) x
   pub spectrum : (k : ℕ) → k ≤ length (n .faults) → circuitSpectrum text k ≡ spectrumOf (rowsOf n (faultAt n k))
+  -- the circuit's equations: an input's line shows what it gets, and a gate's line its kind's value of all the lines that it reads, as they are shown
+  pub input-lines : (k x i : ℕ) → i < n .inputs → let f = faultAt n k in reads (lineValues n f x) (i + 1) ≡ shown f (i + 1) (appliedUnder (f .bridge) x i)
+  pub gate-lines : (k x j : ℕ) → j < length (n .gates) → let f = faultAt n k in
+      reads (lineValues n f x) (n .inputs + j + 1) ≡ shown f (n .inputs + j + 1) (gateIn (lineValues n f x) (getD (n .gates) j noGate))
   -- without a bridge an input gets what is applied to it
   pub unbridged : (k x i : ℕ) → faultAt n k .bridge ≡ noBridge → inputShown (faultAt n k) x i ≡ shown (faultAt n k) (i + 1) (applied x i)
   -- from the sound spectrum alone, where the fault is of stuck lines and names inputs only
@@ -125,6 +131,8 @@ pub record CaseRight (n : Netlist) (mask : ℕ) (r : Reading) : Type 0 where
 
 pub record DemandTwo : Type 0 where
   pub spectra : SpectraRight
+  -- "Gates have their usual truth values": document 01's on two bits, and on the one of `not`
+  pub gate-rule : TwoAsBefore
   pub faults : FaultySpectraRight
   pub circuits : (text : List ℕ) (n : Netlist) → parseOf text ≡ accepted n → CircuitsRight text n
   pub tables : (text : List ℕ) (t : TruthTable) → tableOf text ≡ acceptedTable t → TablesRight text t

@@ -49,7 +49,7 @@ module _ (c : Circuit) (t : Table) where
   pub circuit-fits : Sized c → WellFormed (netlistOf c) → length (c .faults) ≡ 32 → Fit circuitDevice
   unfolding problemOf circuitProblem netlistOf
   circuit-fits size w full = record {
-    in-use = (size, refl, refl);
+    in-use = (size, refl, refl, w);
     faults-counted = fault-count (c .head .inputs) (rowsOf (netlistOf c)) (netlistOf c .faults) (c .head .cap) ∙ faults-counted c size full;
     proper = circuit-proper (netlistOf c) w;
   }
@@ -107,7 +107,7 @@ module _ (d : Device) (fit : Fit d) (k : ℕ) (named : k ≤ d .faults) where
   table-part e = part e ∙ ap (tableRows (truthTableOf (d .table))) (table-numbered (truthTableOf (d .table)) k)
 
   -- what the rows of the part that is in use require
-  pub circuit-in-use : d .form ≡ Gates → Sized (d .circuit) × (d .circuit .head .inputs ≡ d .inputs) × (d .circuit .head .faults ≡ d .faults)
+  pub circuit-in-use : d .form ≡ Gates → Sized (d .circuit) × (d .circuit .head .inputs ≡ d .inputs) × (d .circuit .head .faults ≡ d .faults) × WellFormed (netlistOf (d .circuit))
   circuit-in-use e = subst (λ (form : Form). InUse form d) e (fit .in-use)
 
   pub table-in-use : d .form ≡ Marks → TableSized (d .table) × (d .table .head .inputs ≡ d .inputs) × (d .table .head .faults ≡ d .faults) × TableRight (truthTableOf (d .table))

@@ -4,6 +4,7 @@ use mathlib.Core.Path.{_≡_}
 use lib.IntN.{ℤ}
 use lib.ListN.{length}
 use Rattle.netlist.specs.Circuits.{Netlist, netlistOf, Sized}
+use Rattle.netlist.specs.WellFormed.{WellFormed}
 use Rattle.simulation.specs.Rows.{rowsOf}
 use Rattle.statements.specs.declared.Fault.{Fault}
 use Rattle.tables.specs.Tables.{TruthTable, truthTableOf, TableSized}
@@ -35,7 +36,7 @@ problemOf d = problemFrom (d .inputs) (formRows (d .form) d) (formFaults (d .for
 
 -- the numbers of inputs and faults are those of the part that is in use, which is within the limits of the code
 abbrev pub InUse : Form → Device → Type 0
-InUse Gates d = Sized (d .circuit) × (d .circuit .head .inputs ≡ d .inputs) × (d .circuit .head .faults ≡ d .faults)
+InUse Gates d = Sized (d .circuit) × (d .circuit .head .inputs ≡ d .inputs) × (d .circuit .head .faults ≡ d .faults) × WellFormed (netlistOf (d .circuit))
 InUse Marks d = TableSized (d .table) × (d .table .head .inputs ≡ d .inputs) × (d .table .head .faults ≡ d .faults) × TableRight (truthTableOf (d .table))
 
 -- what holds of the device of an accepted text

@@ -42,7 +42,7 @@ pub struct Described {
 }
 
 fn circuit_rows(c: Circuit, fault: usize, out: &mut [i32])
-    requires { ⌜ Sized c × (fault ≤ c .head .faults) × (length (now out) ≡ 2 ^ c .head .inputs) ⌝ }
+    requires { ⌜ Sized c × WellFormed (netlistOf c) × (fault ≤ c .head .faults) × (length (now out) ≡ 2 ^ c .head .inputs) ⌝ }
     ensures { λ _. ⌜ now (out .exit) ≡ rowsOf (netlistOf c) (faultAt (netlistOf c) fault) ⌝ }
 {
     simulation::rows(c, netlist::fault_at(c, fault), out);

@@ -4,3 +4,4 @@ pub mod Table
 pub mod Texts
 pub mod Notes
 pub mod TableTexts
+pub mod WideTexts

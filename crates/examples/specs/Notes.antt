@@ -6,6 +6,7 @@ use Rattle.screen.specs.Answers.{minus}
 use Rattle.examples.specs.BridgeTexts.{bridgedListing, bridgedListingReport, silentBridge, silentBridgeReport, bridgedTable, bridgedTableReport, gateWith, tableWith}
 use Rattle.examples.specs.Functions.{bridgedFigure}
 use Rattle.examples.specs.Table.{Case, whole, bridged, bridgedWhole, bridgedNot, circuit, plan, noPlan, report, reading}
+use Rattle.examples.specs.WideTexts.{wideAnd, wideAndReport, wideParity, withGate}
 use Rattle.examples.specs.TableTexts.{figureTable, smallTable, smallTableReport, constantTable, constantTableReport, commaTable, shortTable, lineAboveTable}
 
 unfoldable pub noteTable : List Case
@@ -28,6 +29,33 @@ noteTable =
     -- a table is never read
     ∷ reading smallTable 0 0 (Refused 2 1)
     ∷ reading commaTable 0 0 (Refused 2 1)
+    -- Note 2: an `and` of three inputs, sound and under a stuck input; its plan and report
+    ∷ circuit wideAnd 0 (pos 1 ∷ minus 1 ∷ minus 1 ∷ pos 1 ∷ minus 1 ∷ pos 1 ∷ pos 1 ∷ minus 1 ∷ [])
+    ∷ circuit wideAnd 1 (pos 0 ∷ pos 0 ∷ pos 0 ∷ pos 0 ∷ pos 0 ∷ pos 0 ∷ pos 0 ∷ pos 0 ∷ [])
+    ∷ plan wideAnd (0 ∷ [])
+    ∷ report wideAnd wideAndReport
+    -- parity of four inputs by one `xor`
+    ∷ circuit wideParity 0 (pos 8 ∷ pos 0 ∷ pos 0 ∷ pos 0 ∷ pos 0 ∷ pos 0 ∷ pos 0 ∷ pos 0 ∷ pos 0 ∷ pos 0 ∷ pos 0 ∷ pos 0 ∷ pos 0 ∷ pos 0 ∷ pos 0 ∷ minus 8 ∷ [])
+    -- three lines by each other kind, one of them read twice
+    ∷ circuit (withGate "gate,or,1,2,3") 0 (pos 7 ∷ minus 1 ∷ minus 1 ∷ minus 1 ∷ minus 1 ∷ minus 1 ∷ minus 1 ∷ minus 1 ∷ [])
+    ∷ circuit (withGate "gate,nand,1,2,3") 0 (pos 7 ∷ pos 1 ∷ pos 1 ∷ minus 1 ∷ pos 1 ∷ minus 1 ∷ minus 1 ∷ pos 1 ∷ [])
+    ∷ circuit (withGate "gate,nor,1,2,3") 0 (pos 1 ∷ pos 1 ∷ pos 1 ∷ pos 1 ∷ pos 1 ∷ pos 1 ∷ pos 1 ∷ pos 1 ∷ [])
+    ∷ circuit (withGate "gate,xor,1,2,1,3") 0 (pos 4 ∷ pos 0 ∷ pos 0 ∷ pos 0 ∷ pos 0 ∷ pos 0 ∷ minus 4 ∷ pos 0 ∷ [])
+    ∷ circuit (withGate "gate,xnor,1,2,3") 0 (pos 4 ∷ pos 0 ∷ pos 0 ∷ pos 0 ∷ pos 0 ∷ pos 0 ∷ pos 0 ∷ pos 4 ∷ [])
+    -- 2, 3 and 4 of a gate's line, in that order
+    ∷ noPlan (withGate "gate,and,1") 2 2
+    ∷ noPlan (withGate "gate,and,1,2,3,1,2") 2 2
+    ∷ noPlan (withGate "gate,and,1,2,") 2 2
+    ∷ noPlan (withGate "gate,and,1,2,03") 2 2
+    ∷ noPlan (withGate "gate,buf,1,2,3") 2 2
+    ∷ noPlan (withGate "gate,not,1,0,2") 2 2
+    ∷ noPlan (withGate "gate,not,1,2,3") 2 2
+    ∷ noPlan (withGate "gate,not,1,2") 3 2
+    ∷ noPlan (withGate "gate,and,1,2,0") 3 2
+    ∷ noPlan (withGate "gate,and,4,57,1") 3 2
+    ∷ noPlan (withGate "gate,and,4,1,2,57") 3 2
+    ∷ noPlan (withGate "gate,and,1,2,4") 4 2
+    ∷ noPlan (withGate "gate,and,1,2,3,56") 4 2
     -- Note 8: example 6.2 of 004, its spectrum, and label 0 under each bridge; 2,3 and 3,4 leave the sound one
     ∷ whole bridgedFigure (pos 7 ∷ pos 1 ∷ pos 3 ∷ pos 1 ∷ minus 1 ∷ minus 3 ∷ minus 1 ∷ pos 1 ∷ pos 3 ∷ pos 1 ∷ minus 1 ∷ pos 1 ∷ minus 1 ∷ pos 1 ∷ minus 1 ∷ pos 5 ∷ [])
     ∷ bridged bridgedFigure 1 2 (pos 10)

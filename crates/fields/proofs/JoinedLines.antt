@@ -1,5 +1,6 @@
 -- A line is its fields joined by commas, and a number in it the decimal of its value:
---   valuesFrom, values-small             the values of the fields from k on, all below 10,000
+--   valuesFrom                           the values of the fields from k on
+--   values-small, values-count           they are below 10,000, and so many
 --   line-joined, line-ended              a line of a word and numbers is that word and those numbers as they are written
 --   two-words-joined, two-words-ended    the same where a second word stands before the numbers
 --   line-form                            exactly those lines have that form
@@ -42,7 +43,7 @@ values-small l k (suc count) = (small (numberOf (fieldOf l k)) refl, values-smal
     small (Value v) e = omega (arith, number-le (fieldOf l k) v e)
     small Bad e = omega arith
 
-values-count : (l : List ℕ) (k count : ℕ) → length (valuesFrom l k count) ≡ count
+pub values-count : (l : List ℕ) (k count : ℕ) → length (valuesFrom l k count) ≡ count
 values-count l k zero = refl
 values-count l k (suc count) = ap suc (values-count l (suc k) count)
 

@@ -2,3 +2,4 @@ pub mod Chains
 pub mod LineTests
 pub mod PlainLines
 pub mod JoinedLines
+pub mod TestsMean

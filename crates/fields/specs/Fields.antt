@@ -4,11 +4,13 @@
 -- A field that is no number, or is not there, counts as 0 where its value is asked; a line with a bad number is refused before that matters.
 use Prim.Native.Nat.{ℕ, zero, suc, _-_, _≤_}
 use mathlib.Core.Bool.{Bool, true, false, _&&_}
-use mathlib.Core.List.{List, [], _∷_}
+use mathlib.Core.List.{List, [], _∷_, _++_, map}
 use mathlib.Core.Logic.{_⊎_}
 use mathlib.Core.Path.{_≡_}
 use lib.Dec.{eqb, leb}
+use lib.IntN.{pos}
 use Rattle.text.specs.Text.{fieldOf, fieldCount, sameBytes, numberOf}
+use Rattle.writing.specs.Writing.{numbersOf}
 use Rattle.text.specs.declared.Number.{Number}
 use Rattle.text.specs.declared.Number.the-variants.{Value, Bad}
 
@@ -34,6 +36,10 @@ isLine l word from fields = (eqb (fieldCount l) fields && sameBytes (fieldOf l 0
 
 unfoldable pub inRange : ℕ → ℕ → ℕ → Bool
 inRange v low high = leb low v && leb v high
+
+-- as it is written, without its end: a word, then numbers, each after a comma
+abbrev pub lineFrom : List ℕ → List ℕ → List ℕ
+lineFrom word ns = word ++ numbersOf (map pos ns)
 
 -- field k is a number from low to high
 unfoldable pub fits : List ℕ → ℕ → ℕ → ℕ → Bool

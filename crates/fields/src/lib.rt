@@ -25,7 +25,7 @@ pub fn value_at(line: &[u8], k: usize) -> u16
 }
 
 // Whether the fields from `from` on, those before `to`, are numbers.
-fn numbers(line: &[u8], from: usize, to: usize) -> bool
+pub fn numbers(line: &[u8], from: usize, to: usize) -> bool
     ensures { λ r. ⌜ r ≡ numbersFrom (now (line .entry)) from (to - from) ⌝ }
 {
     let mut k = from;

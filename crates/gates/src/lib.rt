@@ -1,119 +1,41 @@
-// The gate rule, what a line shows under a fault, and the column of one line: its value on every row.
+// The gate rule: a kind's value of the bits that a gate reads. Which lines those are, and on which rows, is the business of other crates.
+//
+// Bits are a number behind a leading 1, the first the highest: 1ab, 1abc, 1abcd, and 1a for `not`.
 use kinds::Kind;
-use statements::Fault;
-use statements::Pair;
-ghost use mathlib.Core.Bool.{true, false};
+ghost use mathlib.Core.List.{[], _∷_, _++_};
 ghost use mathlib.Core.Path.{_≡_};
 ghost use Prim.Native.Nat.{_+_, _≤_, _<_};
-ghost use lib.ListN.{length};
-ghost use Rattle.gates.specs.Gates.{gateValue, stuckOr, shown};
-ghost use Rattle.gates.specs.Steps.{seenAs, Columned, inputRule, gateRule};
+ghost use lib.Count.{ones};
+ghost use Rattle.gates.specs.Gates.{gateValue, bitsOf, CaseOf};
 
-fn gate_value(kind: Kind, a: bool, b: bool) -> bool
-    ensures { λ r. ⌜ r ≡ gateValue kind a b ⌝ }
+// One bit more, after the others.
+pub fn with_bit(bits: u32, b: bool) -> u32
+    requires { ⌜ (1 ≤ bits) × (bits < 16) ⌝ }
+    ensures { λ r. ⌜ (bitsOf r ≡ bitsOf bits ++ (b ∷ [])) × (bits + bits ≤ r) × (r ≤ bits + bits + 1) ⌝ }
+{
+    if b { 2 * bits + 1 } else { 2 * bits }
+}
+
+// How many of five bits are 1. The compiler works sums many rows at a time, and `u32::count_ones` not.
+fn ones_in(bits: u32) -> u32
+    requires { ⌜ bits < 32 ⌝ }
+    ensures { λ r. ⌜ r ≡ ones bits ⌝ }
+{
+    bits % 2 + bits / 2 % 2 + bits / 4 % 2 + bits / 8 % 2 + bits / 16 % 2
+}
+
+pub fn gate_value(kind: Kind, bits: u32) -> bool
+    requires { ⌜ CaseOf kind bits ⌝ }
+    ensures { λ r. ⌜ r ≡ gateValue kind (bitsOf bits) ⌝ }
 {
     match kind {
-        Kind::And => a & b,
-        Kind::Or => a | b,
-        Kind::Nand => !(a & b),
-        Kind::Nor => !(a | b),
-        Kind::Xor => a ^ b,
-        Kind::Xnor => !(a ^ b),
-        Kind::Not => !a,
-    }
-}
-
-fn stuck_or(s: Pair, line: usize, v: bool) -> bool
-    ensures { λ r. ⌜ r ≡ stuckOr s line v ⌝ }
-{
-    if s.line as usize == line { s.value } else { v }
-}
-
-// What a line shows under a fault, where v was applied or computed.
-fn show(f: Fault, line: usize, v: bool) -> bool
-    ensures { λ r. ⌜ r ≡ shown f line v ⌝ }
-{
-    stuck_or(
-        f.first,
-        line,
-        stuck_or(f.second, line, stuck_or(f.third, line, v)),
-    )
-}
-
-// Below, `values` has what each line shows on each row: 58 columns of 256 values, 14,848 in all, with line i on row x at 256 * i + x.
-
-// What a line shows where 1 was applied or computed, and where 0 was.
-pub struct Seen {
-    pub one: bool,
-    pub zero: bool,
-}
-
-pub fn through(f: Fault, line: usize) -> Seen
-    ensures { λ r. ⌜ (r .one ≡ shown f line true) × (r .zero ≡ shown f line false) ⌝ }
-{
-    Seen {
-        one: show(f, line, true),
-        zero: show(f, line, false),
-    }
-}
-
-fn seen_as(s: Seen, v: bool) -> bool
-    ensures { λ r. ⌜ r ≡ seenAs s v ⌝ }
-{
-    if v { s.one } else { s.zero }
-}
-
-// The column of an input, from 0, on the first n rows, where it gets the AND of what is applied to p and to q: itself twice, or the two inputs of a bridge.
-pub fn input_column(values: &mut [bool], input: usize, p: usize, q: usize, s: Seen, n: usize)
-    requires { ⌜ (length (now values) ≡ 14848) × (input < 8) × (p ≤ 8) × (q ≤ 8) × (n ≤ 256) ⌝ }
-    ensures { λ _. ⌜ Columned (now (values .entry)) (now (values .exit)) (input + 1) n (inputRule s p q) ⌝ }
-{
-    let at = (input + 1) * 256;
-    let mut x: usize = 0;
-    while x < n {
-        // in 16 bits, which hold every row, the compiler works more of them at a time
-        let row = x as u16;
-        values[at + x] = seen_as(s, ((row >> p) & (row >> q)) % 2 == 1);
-        x += 1;
-    }
-}
-
-// The column of the gate that drives line `line` and reads the lines a and b.
-fn gate_column(values: &mut [bool], kind: Kind, a: usize, b: usize, line: usize, s: Seen, n: usize)
-    requires { ⌜ (length (now values) ≡ 14848) × (a ≤ 57) × (b ≤ 57) × (line ≤ 57) × (n ≤ 256) ⌝ }
-    ensures { λ _. ⌜ Columned (now (values .entry)) (now (values .exit)) line n (gateRule (now (values .entry)) s kind a b) ⌝ }
-{
-    let p = a * 256;
-    let q = b * 256;
-    let at = line * 256;
-    let mut x: usize = 0;
-    while x < n {
-        let v = gate_value(kind, values[p + x], values[q + x]);
-        values[at + x] = seen_as(s, v);
-        x += 1;
-    }
-}
-
-// The same, with the kind told apart once for all rows: the compiler then works many rows at a time.
-pub fn kind_column(
-    values: &mut [bool],
-    kind: Kind,
-    a: usize,
-    b: usize,
-    line: usize,
-    s: Seen,
-    n: usize,
-)
-    requires { ⌜ (length (now values) ≡ 14848) × (a ≤ 57) × (b ≤ 57) × (line ≤ 57) × (n ≤ 256) ⌝ }
-    ensures { λ _. ⌜ Columned (now (values .entry)) (now (values .exit)) line n (gateRule (now (values .entry)) s kind a b) ⌝ }
-{
-    match kind {
-        Kind::And => gate_column(values, Kind::And, a, b, line, s, n),
-        Kind::Or => gate_column(values, Kind::Or, a, b, line, s, n),
-        Kind::Nand => gate_column(values, Kind::Nand, a, b, line, s, n),
-        Kind::Nor => gate_column(values, Kind::Nor, a, b, line, s, n),
-        Kind::Xor => gate_column(values, Kind::Xor, a, b, line, s, n),
-        Kind::Xnor => gate_column(values, Kind::Xnor, a, b, line, s, n),
-        Kind::Not => gate_column(values, Kind::Not, a, b, line, s, n),
+        Kind::And => (bits == 7) | (bits == 15) | (bits == 31),
+        Kind::Or => !((bits == 4) | (bits == 8) | (bits == 16)),
+        Kind::Nand => !((bits == 7) | (bits == 15) | (bits == 31)),
+        Kind::Nor => (bits == 4) | (bits == 8) | (bits == 16),
+        // the leading 1 counts too
+        Kind::Xor => ones_in(bits) % 2 == 0,
+        Kind::Xnor => ones_in(bits) % 2 == 1,
+        Kind::Not => bits == 2,
     }
 }

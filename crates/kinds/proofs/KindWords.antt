@@ -1,8 +1,10 @@
 -- The words of the kinds:
 --   kind-written    the word that a kind is written as is read as that kind
 --   kind-only       no other word is that of a kind
-use mathlib.Core.Path.{_≡_, refl}
-use mathlib.Core.Bool.{Bool, true, false, cond, _||_}
+-- and which of them is `not`:
+--   isNot, other-kind    every kind but `not` is another one
+use mathlib.Core.Path.{_≡_, refl, sym, ap, _∙_}
+use mathlib.Core.Bool.{Bool, true, false, cond, _||_, false≢true}
 use mathlib.Core.List.{List}
 use Prim.Native.Nat.{ℕ, _≤_}
 use native.Mathlib.Omega.{arith}
@@ -47,3 +49,15 @@ kind-only w e =
     go false false false false true g p q r s t u v e = t refl
     go false false false false false true p q r s t u v e = u refl
     go false false false false false false p q r s t u v e = v e
+
+abbrev pub isNot : Kind → Bool
+isNot And = false
+isNot Or = false
+isNot Nand = false
+isNot Nor = false
+isNot Xor = false
+isNot Xnor = false
+isNot Not = true
+
+pub other-kind : {kind : Kind} → isNot kind ≡ false → kind ≡ Not → ⊥
+other-kind f e = false≢true (sym f ∙ ap isNot e)

@@ -6,25 +6,31 @@
 use mathlib.Core.Path.{_≡_, refl, sym, ap, _∙_, subst}
 use mathlib.Core.Bool.{Bool, true, false, _&&_, false≢true}
 use mathlib.Core.List.{List, [], _∷_}
-use Prim.Native.Nat.{ℕ, _+_, _≤_}
+use Prim.Native.Nat.{ℕ, _+_, _<_, _≤_}
+use native.Mathlib.Nat.{lt-of-not-le}
+use native.Mathlib.Decide.{decLe}
 use native.Mathlib.Omega.{arith}
 use lib.Dec.{leb, ltb, lit≤}
 use lib.ListN.{length}
 use borrow.Author.Tests.{ltb-true, leb-true, eqb-true, eq-eqb, lt-ltb}
-use Rattle.text.specs.Text.{before, after, hasByte, lineEnd, fieldOf}
+use Rattle.text.specs.Text.{before, after, hasByte, lineEnd, fieldOf, fieldCount}
 use Rattle.integer.proofs.Bools.{both}
-use Rattle.statements.specs.Items.{noGate, noOutput, sound}
+use Rattle.statements.specs.Items.{noOutput, sound}
+use Rattle.gate_lines.specs.GateItems.{noGate, SecondRight, GateRight}
 use Rattle.fields.specs.Fields.{valueAt, fits}
-use Rattle.statements.specs.Lines.{isHead, headFits, headRefusal, headOf, secondFits, isGate, gateFits, readsBelow, gateRefusal, gateOf, isOutput, outputFits, outputRefusal, outputOf, faultLineOf}
+use Rattle.statements.specs.Lines.{isHead, headFits, headRefusal, headOf, isOutput, outputFits, outputRefusal, outputOf, faultLineOf}
+use Rattle.gate_lines.specs.GateLines.{secondFits, addedFits, isGate, gateFits, readsBelow, gateRefusal, gateOf}
 use Rattle.kinds.specs.Kinds.{kindOf}
 use Rattle.statements.specs.declared.Fault.{Fault}
-use Rattle.statements.specs.declared.Gate.{Gate}
+use Rattle.gate_lines.specs.declared.Gate.{Gate}
 use Rattle.statements.specs.declared.Head.{Head}
 use Rattle.kinds.specs.declared.Kind.{Kind}
 use Rattle.kinds.specs.declared.Kind.the-variants.{And, Or, Nand, Nor, Xor, Xnor, Not}
 use Rattle.statements.specs.declared.Output.{Output}
 use Rattle.fields.proofs.Chains.{unless-passed}
-use Rattle.fields.proofs.PlainLines.{range, fits-range}
+use Rattle.fields.proofs.PlainLines.{range, fits-range, absent}
+use Rattle.gate_lines.proofs.GateFormsMeant.{gate-formed}
+use Rattle.gate_lines.proofs.GatesWritten.{added-there}
 use Rattle.sections.proofs.BridgesWritten.{fault-right}
 use Rattle.sections.proofs.LinesDue.{text-answered}
 use Rattle.sections.proofs.LinesRead.{lines-said}
@@ -32,7 +38,7 @@ use Rattle.sections.specs.Sections.{Read, items, lineRefused, lineRefusal}
 use Rattle.sections.specs.FaultLines.{nthFaultRefusal}
 use Rattle.netlist.specs.Circuits.{Netlist, netlistOf}
 use Rattle.netlist.specs.Parsing.{gatesIn, outputsIn, faultsIn, Parse, accepted, rejected, onRead, endOf, bodyOf, parseOf, meaning, nthGateRefusal, nthOutputRefusal}
-use Rattle.netlist.specs.WellFormed.{SecondRight, GateRight, OutputRight, WellFormed, topOf}
+use Rattle.netlist.specs.WellFormed.{OutputRight, WellFormed, topOf}
 use Rattle.netlist.specs.declared.Parsed.{Parsed}
 
 -- one line
@@ -77,14 +83,26 @@ gate-right own l e =
     let formed = unless-passed (isGate l) 2 _ (lit≤ tt) e in
     let fit = unless-passed (gateFits l) 3 _ (lit≤ tt) (formed .1) in
     let below = unless-passed (readsBelow own l) 4 0 (lit≤ tt) (fit .1) in
-    let f = both (fits l 2 1 56) (secondFits (kindOf (fieldOf l 1)) (valueAt l 3)) (fit .0) in
-    let r = both (ltb (valueAt l 2) own) (ltb (valueAt l 3) own) (below .0) in
+    let two = fits l 2 1 56 && secondFits (kindOf (fieldOf l 1)) (valueAt l 3) in
+    let third = addedFits (leb (fieldCount l) 4) (valueAt l 4) in
+    let f = both (fits l 2 1 56) (secondFits (kindOf (fieldOf l 1)) (valueAt l 3)) (both two third (both (two && third) (addedFits (leb (fieldCount l) 5) (valueAt l 5)) (fit .0) .0) .0) in
+    let r = both ((ltb (valueAt l 2) own && ltb (valueAt l 3) own) && ltb (valueAt l 4) own) (ltb (valueAt l 5) own) (below .0) in
+    let s = both (ltb (valueAt l 2) own && ltb (valueAt l 3) own) (ltb (valueAt l 4) own) (r .0) in
+    let t = both (ltb (valueAt l 2) own) (ltb (valueAt l 3) own) (s .0) in
     record {
       first = fits-range l 2 1 56 (f .0) .0;
       second = second-right (kindOf (fieldOf l 1)) (valueAt l 3) (f .1);
-      first-below = ltb-true (valueAt l 2) own (r .0);
-      second-below = ltb-true (valueAt l 3) own (r .1);
+      no-gap = no-third (decLe (fieldCount l) 4) (added-there l (fit .0) .0);
+      not-narrow = λ is. absent l 4 (omega (arith, gate-formed l (formed .0) .four-of-not is));
+      first-below = ltb-true (valueAt l 2) own (t .0);
+      second-below = ltb-true (valueAt l 3) own (t .1);
+      third-below = ltb-true (valueAt l 4) own (s .1);
+      fourth-below = ltb-true (valueAt l 5) own (r .1);
     }
+  where
+    no-third : Dec (fieldCount l ≤ 4) → (4 < fieldCount l → 1 ≤ valueAt l 4) → valueAt l 4 ≡ 0 → valueAt l 5 ≡ 0
+    no-third (yes none) there z = absent l 5 (omega arith)
+    no-third (no some) there z = absurd (omega (arith, there (lt-of-not-le some), z))
 
 pub output-right : (top : ℕ) (l : List ℕ) → outputRefusal top l ≡ 0 → OutputRight top (outputOf l)
 unfolding outputRefusal outputFits outputOf

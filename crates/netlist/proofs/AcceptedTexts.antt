@@ -1,7 +1,7 @@
 -- Which texts are accepted:
 --   accepted-only     a text that is accepted as a circuit is the text of that circuit
 --   texts-exactly     the texts of the well-formed circuits, and no others
---   accepted-short    such a text is at most 1,512 bytes long
+--   accepted-short    such a text is at most 1,800 bytes long
 use mathlib.Core.Path.{_≡_, ap, ap₂, _∙_}
 use mathlib.Core.List.{List, [], _++_, append-nil}
 use mathlib.Core.Logic.{_↔_}
@@ -9,8 +9,10 @@ use Prim.Native.Nat.{ℕ, _+_, _≤_}
 use native.Mathlib.Omega.{arith}
 use lib.ListN.{length}
 use Rattle.text.specs.Text.{before, after, lineEnd}
-use Rattle.statements.specs.Items.{noGate, noOutput, sound}
-use Rattle.statements.specs.Lines.{headRefusal, headOf, gateOf, outputOf, faultLineOf}
+use Rattle.statements.specs.Items.{noOutput, sound}
+use Rattle.gate_lines.specs.GateItems.{noGate}
+use Rattle.statements.specs.Lines.{headRefusal, headOf, outputOf, faultLineOf}
+use Rattle.gate_lines.specs.GateLines.{gateOf}
 use Rattle.statements.specs.declared.Head.{Head}
 use Rattle.sections.specs.FaultLines.{faultLine, nthFaultRefusal}
 use Rattle.sections.proofs.BridgesWritten.{fault-only}

@@ -11,7 +11,8 @@ use lib.ListN.{length, take, drop, length-drop}
 use borrow.Author.Tests.{lt-ltb, le-ltb, eq-eqb, ne-eqb}
 use Rattle.text.specs.Text.{textBytes, indexOf, before, lineEnd}
 use Rattle.text.proofs.Parts.{cut-before, cut-after, cut-has, cut-none}
-use Rattle.statements.specs.Lines.{headRefusal, headOf, gateOf, outputOf, faultLineOf}
+use Rattle.statements.specs.Lines.{headRefusal, headOf, outputOf, faultLineOf}
+use Rattle.gate_lines.specs.GateLines.{gateOf}
 use Rattle.statements.specs.declared.Head.{Head}
 use Rattle.sections.specs.FaultLines.{nthFaultRefusal}
 use Rattle.sections.proofs.LineLoops.{Stage, stage-refused, stage-read}

@@ -1,38 +1,38 @@
 -- The first line, and that of a gate or an output, is accepted as what it was written from, and no other line is:
 --   head-told, gate-told, output-told    where the item is within its ranges
 --   head-only, gate-only, output-only    a line that is accepted is the line of what it says
-use mathlib.Core.Path.{_≡_, refl, ap, _∙_}
-use mathlib.Core.Bool.{_&&_}
+use mathlib.Core.Path.{_≡_, refl, ap, ap₂, _∙_, subst}
+use mathlib.Core.Bool.{true}
 use mathlib.Core.List.{List, [], _∷_, _++_, map}
-use Prim.Native.Nat.{ℕ, suc, _≤_}
+use Prim.Native.Nat.{ℕ, suc, _-_, _≤_}
 use native.Mathlib.Omega.{arith}
 use lib.Dec.{lit≤}
 use lib.IntN.{ℤ, pos, natAbs}
 use lib.ListN.{length, getD}
 use Rattle.integer.specs.ListTests.{any}
-use Rattle.text.specs.Text.{comma, lineEnd, indexOf, fieldOf}
+use Rattle.text.specs.Text.{comma, lineEnd, indexOf, fieldOf, fieldCount}
 use Rattle.writing.specs.Writing.{Small, decimalTo, decimalOf, integerOf, gather, numberField, numbersOf, lineOf}
 use Rattle.writing.proofs.LineFields.{AtMost, most-small, line-longest, lacks-append}
 use Rattle.writing.proofs.Writings.{line-long}
-use Rattle.integer.proofs.Bools.{both}
-use Rattle.fields.specs.Fields.{valueAt, isLine, unless}
-use Rattle.statements.specs.Lines.{circuitWord, gateWord, outputWord, isHead, headRefusal, headOf, isGate, gateRefusal, gateOf, isOutput, outputRefusal, outputOf}
-use Rattle.statements.specs.LineForms.{lineFrom, SecondInRange, gateFrom}
-use Rattle.statements.proofs.FormsMeant.{head-form, gate-form, gate-kind, gate-value, output-form}
-use Rattle.kinds.specs.Kinds.{kindWord, isKind}
-use Rattle.statements.specs.declared.Gate.{Gate}
+use Rattle.fields.specs.Fields.{valueAt, isLine, unless, lineFrom}
+use Rattle.statements.specs.Lines.{circuitWord, outputWord, isHead, headRefusal, headOf, isOutput, outputRefusal, outputOf}
+use Rattle.gate_lines.specs.GateLines.{gateWord, isGate, gateRefusal, gateOf}
+use Rattle.gate_lines.specs.GateItems.{lineFields, GateRight}
+use Rattle.statements.proofs.FormsMeant.{head-form, output-form}
+use Rattle.gate_lines.proofs.GateFormsMeant.{gate-formed}
+use Rattle.gate_lines.proofs.GatesWritten.{fields-most, gate-passes, gate-says, fields-kept}
+use Rattle.kinds.specs.Kinds.{kindWord}
+use Rattle.gate_lines.specs.declared.Gate.{Gate}
 use Rattle.statements.specs.declared.Head.{Head}
-use Rattle.kinds.specs.declared.Kind.{Kind}
-use Rattle.kinds.specs.declared.Kind.the-variants.{And, Or, Nand, Nor, Xor, Xnor, Not}
 use Rattle.statements.specs.declared.Output.{Output}
-use Rattle.kinds.proofs.KindWords.{KindWritten, kind-written, kind-only}
+use Rattle.kinds.proofs.KindWords.{kind-written, kind-only}
 use Rattle.sections.proofs.LinesWritten.{Told}
 use Rattle.fields.proofs.Chains.{unless-passed}
 use Rattle.fields.proofs.JoinedLines.{line-ended, two-words-ended}
 use Rattle.fields.proofs.PlainLines.{plain-value}
 use Rattle.netlist.specs.CircuitText.{headLine, gateLine, outputLine}
 use Rattle.netlist.specs.Circuits.{Netlist}
-use Rattle.netlist.specs.WellFormed.{SecondRight, GateRight, OutputRight, WellFormed}
+use Rattle.netlist.specs.WellFormed.{OutputRight, WellFormed}
 
 -- ---- the first line
 
@@ -89,56 +89,33 @@ head-only l n e is =
 
 -- ---- gates
 
-second-ranged : (k : Kind) (b : ℕ) → SecondRight k b → b ≤ 56 → SecondInRange k b
-second-ranged And b r h = (r, h)
-second-ranged Or b r h = (r, h)
-second-ranged Nand b r h = (r, h)
-second-ranged Nor b r h = (r, h)
-second-ranged Xor b r h = (r, h)
-second-ranged Xnor b r h = (r, h)
-second-ranged Not b r h = r
-
-pub gate-told : (own : ℕ) (g : Gate) → own ≤ 56 → GateRight own g → Told 16 (gateRefusal own) gateOf (gateLine g) g
-unfolding gateLine gateRefusal gateOf unless indexOf any lineOf numbersOf gather numberField integerOf decimalOf decimalTo
+pub gate-told : (own : ℕ) (g : Gate) → own ≤ 56 → GateRight own g → Told 22 (gateRefusal own) gateOf (gateLine g) g
+unfolding gateLine indexOf lineOf numbersOf gather numberField integerOf decimalOf decimalTo
 gate-told own g h r =
     record {
-      word = gateWord ++ (comma ∷ kindWord (g .kind));
-      numbers = map pos ns;
+      word = word;
+      numbers = map pos (lineFields g);
       is = refl;
-      one-line = lacks-append lineEnd (gateWord ++ (comma ∷ [])) (kindWord (g .kind)) refl (kind .one-line);
-      passes = rw (
-        gate-form .form (gateFrom (g .kind) (g .a) (g .b)) .1 (g .kind, g .a, g .b, small, refl),
-        gate-form .range (g .kind) (g .a) (g .b) small .1 (r .first, omega (arith, r .first-below), second-ranged (g .kind) (g .b) (r .second) (omega (arith, r .second-below))),
-        gate-form .below own (g .kind) (g .a) (g .b) small .1 (r .first-below, r .second-below),
-      );
-      says = rw (gate-kind (g .kind) (g .a) (g .b) small, kind .read, at 0, at 1);
-      short = omega (arith, line-longest (gateWord ++ (comma ∷ kindWord (g .kind))) longest ns high, line-long (gateWord ++ (comma ∷ kindWord (g .kind))) (map pos longest), kind .short);
+      one-line = lacks-append lineEnd (gateWord ++ (comma ∷ [])) (kindWord (g .kind)) refl (kind-written (g .kind) .one-line);
+      passes = gate-passes own g h r;
+      says = gate-says own g h r;
+      short = omega (arith, line-longest word longest (lineFields g) (fields-most own g h r), line-long word (map pos longest), kind-written (g .kind) .short);
     }
   where
-    kind : KindWritten (g .kind)
-    kind = kind-written (g .kind)
+    word : List ℕ
+    word = gateWord ++ (comma ∷ kindWord (g .kind))
 
-    ns : List ℕ
-    ns = g .a ∷ g .b ∷ []
-
-    -- their line has 16 bytes after a kind of four
+    -- their line has 22 bytes after a kind of four
     longest : List ℕ
-    longest = 56 ∷ 56 ∷ []
-
-    high : AtMost longest ns
-    high = (omega (arith, r .first-below), (omega (arith, r .second-below), tt))
-
-    small : Small ns
-    small = most-small longest ns refl high
-
-    at : (k : ℕ) → valueAt (gateFrom (g .kind) (g .a) (g .b)) (suc (suc k)) ≡ getD ns k 0
-    at = gate-value (g .kind) (g .a) (g .b) small
+    longest = 56 ∷ 56 ∷ 56 ∷ 56 ∷ []
 
 pub gate-only : (own : ℕ) (l : List ℕ) → gateRefusal own l ≡ 0 → l ++ (lineEnd ∷ []) ≡ gateLine (gateOf l)
-unfolding gateRefusal isGate gateOf gateLine
+unfolding gateRefusal gateOf gateLine
 gate-only own l e =
-    let f = both (isLine l gateWord 2 4) (isKind (fieldOf l 1)) (unless-passed (isLine l gateWord 2 4 && isKind (fieldOf l 1)) 2 _ (lit≤ tt) e .0) in
-    two-words-ended l gateWord 2 (f .0) ∙ ap (λ (w : List ℕ). lineOf (gateWord ++ (comma ∷ w)) (pos (valueAt l 2) ∷ pos (valueAt l 3) ∷ [])) (kind-only (fieldOf l 1) (f .1))
+    let f = gate-formed l (unless-passed (isGate l) 2 _ (lit≤ tt) e .0) in
+    let all : fieldCount l ≡ suc (suc (fieldCount l - 2)) = omega (arith, f .some) in
+    two-words-ended l gateWord (fieldCount l - 2) (subst (λ (n : ℕ). isLine l gateWord 2 n ≡ true) all (f .numbers))
+    ∙ ap₂ (λ (w ns : List ℕ). lineOf (gateWord ++ (comma ∷ w)) (map pos ns)) (kind-only (fieldOf l 1) (f .known)) (fields-kept own l e)
 
 -- ---- outputs
 

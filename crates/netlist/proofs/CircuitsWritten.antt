@@ -1,7 +1,7 @@
 -- Every well-formed circuit has a text:
 --   text-accepted       the text of a well-formed circuit is accepted as that circuit
 --   accepted-exactly    the well-formed circuits are those that some text is accepted as
---   text-short          such a text is at most 1,512 bytes long
+--   text-short          such a text is at most 1,800 bytes long
 use mathlib.Core.Path.{_≡_, sym, ap, _∙_}
 use mathlib.Core.List.{List, [], _++_, append-nil}
 use mathlib.Core.Logic.{_↔_}
@@ -10,8 +10,10 @@ use native.Mathlib.Omega.{arith}
 use lib.ListN.{length, getD, length-append}
 use borrow.Author.Tests.{le-ltb}
 use Rattle.text.specs.Text.{textBytes}
-use Rattle.statements.specs.Items.{noGate, noOutput, sound}
-use Rattle.statements.specs.Lines.{headRefusal, headOf, gateOf, outputOf, faultLineOf}
+use Rattle.statements.specs.Items.{noOutput, sound}
+use Rattle.gate_lines.specs.GateItems.{noGate}
+use Rattle.statements.specs.Lines.{headRefusal, headOf, outputOf, faultLineOf}
+use Rattle.gate_lines.specs.GateLines.{gateOf}
 use Rattle.statements.specs.declared.Head.{Head}
 use Rattle.sections.specs.FaultLines.{faultLine, nthFaultRefusal}
 use Rattle.sections.specs.Sections.{eachLine}
@@ -44,7 +46,7 @@ module _ (n : Netlist) (w : WellFormed n) where
   top-high : topOf n ≤ 56
   top-high = omega (arith, w .inputs-high, w .gates-high)
 
-  gates-told : (j : ℕ) → j < length (n .gates) → Told 16 (nthGateRefusal (n .inputs) j) gateOf (gateLine (getD (n .gates) j noGate)) (getD (n .gates) j noGate)
+  gates-told : (j : ℕ) → j < length (n .gates) → Told 22 (nthGateRefusal (n .inputs) j) gateOf (gateLine (getD (n .gates) j noGate)) (getD (n .gates) j noGate)
   gates-told j h = gate-told (n .inputs + j + 1) (getD (n .gates) j noGate) (omega (arith, w .inputs-high, w .gates-high)) (w .gates-right j h)
 
   outputs-told : (j : ℕ) → j < length (n .outputs) → Told 13 (nthOutputRefusal (topOf n) j) outputOf (outputLine (getD (n .outputs) j noOutput)) (getD (n .outputs) j noOutput)

@@ -15,15 +15,17 @@ use lib.ListN.{length}
 use borrow.Author.Tests.{lt-ltb, ne-eqb, le-leb, lt-leb}
 use Rattle.text.specs.Text.{textBytes, before, after, hasByte, lineEnd}
 use Rattle.fields.specs.Fields.{unless, Fails}
-use Rattle.statements.specs.Lines.{headRefusal, gateRefusal, gateOf, outputRefusal, outputOf, faultLineOf, bridgeTests, bridgeRefusal, faultRefusal, namesBridge, faultLineRefusal}
+use Rattle.statements.specs.Lines.{headRefusal, outputRefusal, outputOf, faultLineOf, bridgeTests, bridgeRefusal, faultRefusal, namesBridge, faultLineRefusal}
+use Rattle.gate_lines.specs.GateLines.{gateRefusal, gateOf}
 use Rattle.statements.specs.declared.Fault.{Fault}
-use Rattle.statements.specs.declared.Gate.{Gate}
+use Rattle.gate_lines.specs.declared.Gate.{Gate}
 use Rattle.statements.specs.declared.Head.{Head}
 use Rattle.statements.specs.declared.Output.{Output}
 use Rattle.sections.specs.Sections.{lineRefusal, linesFrom, linesOf}
 use Rattle.sections.specs.FaultLines.{nthFaultRefusal}
 use Rattle.fields.proofs.Chains.{LineNumber}
-use Rattle.statements.proofs.LineNumbers.{head-number, gate-number, output-number, fault-number, bridge-least}
+use Rattle.statements.proofs.LineNumbers.{head-number, output-number, fault-number, bridge-least}
+use Rattle.gate_lines.proofs.GateNumbers.{gate-number}
 use Rattle.sections.proofs.LinesDue.{dueAt, DuePassing, FirstRefused, due-own, refused-next, due-read, refused-pass, refused-once, text-answered}
 use Rattle.netlist.specs.Circuits.{Netlist}
 use Rattle.netlist.specs.Parsing.{gatesIn, outputsIn, faultsIn, Parse, accepted, rejected, onRead, endOf, bodyOf, parseOf, nthGateRefusal, nthOutputRefusal}

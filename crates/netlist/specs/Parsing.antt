@@ -6,9 +6,10 @@ use mathlib.Core.List.{List, []}
 use lib.Dec.{eqb, ltb}
 use lib.ListN.{length}
 use Rattle.text.specs.Text.{textBytes, before, after, lineEnd}
-use Rattle.statements.specs.Lines.{headRefusal, headOf, gateOf, outputOf, faultLineOf, gateRefusal, outputRefusal}
+use Rattle.statements.specs.Lines.{headRefusal, headOf, outputOf, faultLineOf, outputRefusal}
+use Rattle.gate_lines.specs.GateLines.{gateOf, gateRefusal, narrowRefusal}
 use Rattle.statements.specs.declared.Fault.{Fault}
-use Rattle.statements.specs.declared.Gate.{Gate}
+use Rattle.gate_lines.specs.declared.Gate.{Gate}
 use Rattle.statements.specs.declared.Head.{Head}
 use Rattle.statements.specs.declared.Output.{Output}
 use Rattle.sections.specs.Sections.{Read, items, lineRefused, lineRefusal, linesOf}
@@ -19,6 +20,10 @@ use Rattle.netlist.specs.declared.Parsed.{Parsed}
 -- "Inputs are lines 1 to N; the j-th gate (from 1) drives line N+j."
 abbrev pub nthGateRefusal : ℕ → ℕ → List ℕ → ℕ
 nthGateRefusal inputs j l = gateRefusal (inputs + j + 1) l
+
+-- as it was before there were gates of more than two line fields
+abbrev pub nthNarrowRefusal : ℕ → ℕ → List ℕ → ℕ
+nthNarrowRefusal inputs j l = narrowRefusal (inputs + j + 1) l
 
 abbrev pub nthOutputRefusal : ℕ → ℕ → List ℕ → ℕ
 nthOutputRefusal top j l = outputRefusal top l

@@ -10,7 +10,8 @@ use mathlib.Core.Path.{_≡_}
 use lib.Dec.{eqb, leb}
 use lib.ListN.{length}
 use Rattle.text.specs.Text.{textBytes, before, lineEnd}
-use Rattle.statements.specs.Lines.{headRefusal, headOf, gateRefusal, outputRefusal, faultLineRefusal}
+use Rattle.statements.specs.Lines.{headRefusal, headOf, outputRefusal, faultLineRefusal}
+use Rattle.gate_lines.specs.GateLines.{gateRefusal}
 use Rattle.statements.specs.declared.Head.{Head}
 use Rattle.sections.specs.Sections.{lineRefusal, linesFrom}
 

@@ -1,32 +1,14 @@
--- What accepted circuits satisfy, and no others (proofs/CircuitsWritten `accepted-exactly`): document 01's ranges, "Each of A and B is below the gate's own
--- line", outputs and faults that name lines of the circuit, a fault's lines rising, and bridges of two inputs that rise (document 02, note 8).
+-- What accepted circuits satisfy, and no others (proofs/CircuitsWritten `accepted-exactly`): document 01's ranges, gates that read lower lines, two to four
+-- of them, and `not` one (document 02, note 2), outputs and faults that name lines of the circuit, a fault's lines rising, and bridges of two inputs that rise (document 02, note 8).
 use Prim.Native.Nat.{ℕ, _+_, _<_, _≤_}
 use mathlib.Core.Path.{_≡_}
 use lib.IntN.{pos, natAbs}
 use lib.ListN.{length, getD}
-use Rattle.statements.specs.Items.{noGate, noOutput, sound}
-use Rattle.statements.specs.declared.Gate.{Gate}
-use Rattle.kinds.specs.declared.Kind.{Kind}
-use Rattle.kinds.specs.declared.Kind.the-variants.{And, Or, Nand, Nor, Xor, Xnor, Not}
+use Rattle.statements.specs.Items.{noOutput, sound}
+use Rattle.gate_lines.specs.GateItems.{noGate, GateRight}
 use Rattle.statements.specs.declared.Output.{Output}
 use Rattle.sections.specs.FaultLines.{FaultRight}
 use Rattle.netlist.specs.Circuits.{Netlist}
-
--- "B is 1 to 56, and 0 for `not`"
-abbrev pub SecondRight : Kind → ℕ → Type 0
-SecondRight And b = 1 ≤ b
-SecondRight Or b = 1 ≤ b
-SecondRight Nand b = 1 ≤ b
-SecondRight Nor b = 1 ≤ b
-SecondRight Xor b = 1 ≤ b
-SecondRight Xnor b = 1 ≤ b
-SecondRight Not b = b ≡ 0
-
-pub record GateRight (own : ℕ) (g : Gate) : Type 0 where
-  pub first : 1 ≤ g .a
-  pub second : SecondRight (g .kind) (g .b)
-  pub first-below : g .a < own
-  pub second-below : g .b < own
 
 pub record OutputRight (top : ℕ) (o : Output) : Type 0 where
   pub line-low : 1 ≤ o .line

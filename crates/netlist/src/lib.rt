@@ -1,10 +1,10 @@
 // The circuit as data, and the parser of the circuit text with refusals 1 to 7 and 19. What a circuit computes is the business of other crates.
 mod parsing;
 
+use gate_lines::Gate;
 pub use parsing::parse;
 use statements::Bridge;
 use statements::Fault;
-use statements::Gate;
 use statements::Head;
 use statements::Output;
 use statements::Pair;

@@ -1,10 +1,10 @@
 // The circuit text, line by line.
 use crate::Circuit;
 use crate::Parsed;
+use gate_lines::Gate;
 use kinds::Kind;
 use statements::Bridge;
 use statements::Fault;
-use statements::Gate;
 use statements::Head;
 use statements::Output;
 use statements::Pair;
@@ -12,7 +12,8 @@ ghost use mathlib.Core.Path.{_≡_};
 ghost use Prim.Native.Nat.{_≤_, _+_};
 ghost use mathlib.Core.List.{[]};
 ghost use lib.ListN.{drop};
-ghost use Rattle.statements.specs.Lines.{gateOf, outputOf};
+ghost use Rattle.statements.specs.Lines.{outputOf};
+ghost use Rattle.gate_lines.specs.GateLines.{gateOf};
 ghost use Rattle.sections.specs.Sections.{linesOf, readOf};
 ghost use Rattle.netlist.specs.Circuits.{Sized};
 ghost use Rattle.netlist.specs.Parsing.{nthGateRefusal, nthOutputRefusal, bodyOf, parseOf, meaning};
@@ -40,6 +41,8 @@ fn gates(text: &[u8], from: usize, inputs: usize, count: usize) -> GateLines
         kind: Kind::And,
         a: 0,
         b: 0,
+        c: 0,
+        d: 0,
     };
     let mut gates = [none; 48];
     let mut at = from;
@@ -54,7 +57,7 @@ fn gates(text: &[u8], from: usize, inputs: usize, count: usize) -> GateLines
                 gates,
             };
         }
-        let said = statements::gate_line(inputs + j + 1, &text[at..end]);
+        let said = gate_lines::gate_line(inputs + j + 1, &text[at..end]);
         let number = said.number;
         if number != 0 {
             return GateLines {
@@ -140,6 +143,8 @@ fn refused(number: u32, place: usize) -> Parsed
         kind: Kind::And,
         a: 0,
         b: 0,
+        c: 0,
+        d: 0,
     };
     Parsed {
         number,

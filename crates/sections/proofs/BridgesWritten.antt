@@ -4,35 +4,35 @@
 --   fault-right                              a fault line that is not refused says a right fault
 --   fault-told, fault-only                   and is the line of that fault
 --   lines-as-before                          fault lines without the word of a bridge are read as before there were any
-use mathlib.Core.Path.{_≡_, refl, sym, ap, ap₂, _∙_}
+use mathlib.Core.Path.{_≡_, refl, sym, ap, _∙_}
 use mathlib.Core.Bool.{Bool, true, false, cond, _&&_}
 use mathlib.Core.List.{List, [], _∷_, _++_, map}
 use mathlib.Core.Logic.{_⊎_, inl, inr}
-use Prim.Native.Nat.{ℕ, zero, suc, _<_, _≤_}
+use Prim.Native.Nat.{ℕ, suc, _<_, _≤_}
 use native.Mathlib.Omega.{arith}
-use lib.Dec.{eqb, leb, ltb, lit≤}
+use lib.Dec.{leb, ltb, lit≤}
 use lib.IntN.{pos}
-use lib.ListN.{length, getD}
+use lib.ListN.{getD}
 use borrow.Author.Tests.{eq-eqb, ne-eqb, leb-true, ltb-true}
 use Rattle.integer.specs.ListTests.{any}
 use Rattle.integer.proofs.Bools.{both}
-use Rattle.text.specs.Text.{lineEnd, indexOf, before, after, hasByte}
+use Rattle.text.specs.Text.{lineEnd, indexOf, before}
 use Rattle.writing.specs.Writing.{Small, decimalTo, decimalOf, integerOf, gather, numberField, numbersOf, lineOf}
 use Rattle.writing.proofs.LineFields.{AtMost, most-small, line-longest}
-use Rattle.fields.specs.Fields.{valueAt, fits, isLine, unless}
+use Rattle.fields.specs.Fields.{valueAt, fits, isLine, unless, lineFrom}
 use Rattle.fields.proofs.Chains.{unless-passed}
 use Rattle.fields.proofs.JoinedLines.{line-ended}
 use Rattle.fields.proofs.PlainLines.{plain-value, fits-range}
 use Rattle.statements.specs.Items.{noBridge}
-use Rattle.statements.specs.LineForms.{lineFrom}
 use Rattle.statements.specs.Lines.{bridgeWord, isFault, faultRefusal, faultOf, isBridge, bridgeFits, inputsRise, bridgeRefusal, bridgeOf, namesBridge, faultLineRefusal, faultLineOf}
 use Rattle.statements.specs.declared.Bridge.{Bridge}
 use Rattle.statements.specs.declared.Fault.{Fault}
 use Rattle.statements.proofs.FormsMeant.{bridge-form, bridge-named, fault-unnamed}
 use Rattle.sections.specs.FaultLines.{nthFaultRefusal, nthStuckRefusal, stuckLine, bridgeLine, faultLine, StuckFault, BridgeFault, FaultRight}
-use Rattle.sections.specs.Sections.{Read, lineRefused, linesFrom, linesOf}
+use Rattle.sections.specs.Sections.{linesFrom, linesOf}
 use Rattle.sections.proofs.FaultsRight.{stuck-fault-right}
-use Rattle.sections.proofs.FaultsWritten.{stuck-told, stuck-only}
+use Rattle.sections.proofs.FaultsWritten.{stuck-only}
+use Rattle.sections.proofs.LinesRead.{lines-alike}
 use Rattle.sections.proofs.LinesWritten.{Told}
 
 -- ---- the line of a bridge
@@ -166,19 +166,5 @@ module _ (inputs top : ℕ) where
 
   pub lines-as-before : (left place : ℕ) (rest : List ℕ) (read : List Fault) → ((k : ℕ) → k < left → namesBridge (before lineEnd (linesFrom k rest)) ≡ false)
       → linesOf (nthFaultRefusal inputs top) faultLineOf left place rest read ≡ linesOf (nthStuckRefusal top) faultOf left place rest read
-  unfolding linesOf linesFrom
-  lines-as-before zero place rest read plain = refl
-  lines-as-before (suc left) place rest read plain = first ∙ ap (answered (faultRefusal top line)) (lines-as-before left (suc place) (after lineEnd rest) (read ++ (faultOf line ∷ [])) (λ k h. plain (suc k) (omega arith)))
-    where
-      line : List ℕ
-      line = before lineEnd rest
-
-      -- what comes of the line's number, and of the lines after it
-      answered : ℕ → Read Fault → Read Fault
-      answered number later = cond (eqb (unless (hasByte lineEnd rest) 2 number) 0) later (lineRefused (unless (hasByte lineEnd rest) 2 number) place)
-
-      same : (faultLineRefusal inputs top line ≡ faultRefusal top line) × (faultLineOf line ≡ faultOf line)
-      same = plain-line-is line (plain 0 (omega arith))
-
-      first : linesOf (nthFaultRefusal inputs top) faultLineOf (suc left) place rest read ≡ answered (faultRefusal top line) (linesOf (nthFaultRefusal inputs top) faultLineOf left (suc place) (after lineEnd rest) (read ++ (faultOf line ∷ [])))
-      first = ap₂ (λ (number : ℕ) (f : Fault). answered number (linesOf (nthFaultRefusal inputs top) faultLineOf left (suc place) (after lineEnd rest) (read ++ (f ∷ [])))) (same .0) (same .1)
+  lines-as-before left place rest read plain =
+      lines-alike (nthFaultRefusal inputs top) (nthStuckRefusal top) faultLineOf faultOf left place rest read (λ k h j. let same = plain-line-is (before lineEnd (linesFrom k rest)) (plain k h) in (same .0, λ passes. same .1))

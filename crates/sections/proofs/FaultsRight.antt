@@ -20,7 +20,8 @@ use Rattle.statements.specs.Lines.{isFault, pairInRange, pairFits, faultFits, l
 use Rattle.statements.specs.declared.Pair.{Pair}
 use Rattle.fields.proofs.Chains.{unless-passed}
 use Rattle.fields.proofs.PlainLines.{absent}
-use Rattle.statements.proofs.FormsMeant.{both-mean, below-means, range-means, there-means, PairCount, fault-formed}
+use Rattle.statements.proofs.FormsMeant.{PairCount, fault-formed}
+use Rattle.fields.proofs.TestsMean.{both-mean, below-means, range-means, there-means}
 use Rattle.sections.specs.FaultLines.{Above, StuckFault}
 
 some-pair : (l : List ℕ) → isFault l ≡ true → 1 < fieldCount l

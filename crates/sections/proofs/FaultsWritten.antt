@@ -25,7 +25,8 @@ use Rattle.statements.specs.declared.Pair.{Pair}
 use Rattle.fields.proofs.Chains.{unless-passed}
 use Rattle.fields.proofs.JoinedLines.{valuesFrom, line-ended}
 use Rattle.fields.proofs.PlainLines.{plain-count, plain-value, plain-line, absent}
-use Rattle.statements.proofs.FormsMeant.{both-mean, below-means, range-means, there-means, PairCount, fault-formed}
+use Rattle.statements.proofs.FormsMeant.{PairCount, fault-formed}
+use Rattle.fields.proofs.TestsMean.{both-mean, below-means, range-means, there-means}
 use Rattle.sections.specs.FaultLines.{pairWritten, stuckLine, Above, StuckFault}
 use Rattle.sections.proofs.FaultsRight.{there-fits, free-line}
 use Rattle.sections.proofs.LinesWritten.{Told}

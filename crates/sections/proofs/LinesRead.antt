@@ -3,6 +3,7 @@
 --   lines-further             the text after m lines and k more
 --   Passed, lines-passed      each of them passes its own test, and what follows is the text after them
 --   Stopped, lines-stopped    lines that are refused: the first that is, with its number, and its place counted from that of the first line
+--   Alike, lines-alike        two ways to read lines that agree on each of them read all of them alike
 use mathlib.Core.Path.{_≡_, refl, sym, ap, _∙_, subst, subst⁻¹}
 use mathlib.Core.Bool.{Bool, true, false, cond, true≢false, false≢true}
 use mathlib.Core.List.{List, [], _∷_, _++_}
@@ -10,12 +11,13 @@ use Prim.Native.Nat.{ℕ, zero, suc, _+_, _<_, _≤_}
 use native.Mathlib.Nat.{add-zero, zero-add, lt-of-not-le}
 use native.Mathlib.Decide.{decLe}
 use native.Mathlib.Omega.{arith}
-use lib.Dec.{eqb, ltb}
+use lib.Dec.{eqb, ltb, lit≤}
 use lib.ListN.{length, getD, length-append, List·getD-append}
 use lib.Seq.{getD-append-seam}
 use borrow.Author.Tests.{eqb-true, eqb-false}
-use Rattle.text.specs.Text.{before, after, lineEnd, indexOf}
+use Rattle.text.specs.Text.{before, after, hasByte, lineEnd, indexOf}
 use Rattle.fields.specs.Fields.{unless}
+use Rattle.fields.proofs.Chains.{unless-passed}
 use Rattle.sections.specs.Sections.{Read, items, lineRefused, lineRefusal, linesFrom, linesOf}
 
 abbrev itemsOf : {A : Type 0} → Read A → List A
@@ -181,3 +183,36 @@ module _ (refusal : ℕ → List ℕ → ℕ) where
               some = λ e. eqb-false line 0 z (n ∙ e);
               passing = λ k h. absurd (omega arith);
             }
+
+module _ {A : Type 0} (refusal other : ℕ → List ℕ → ℕ) (item further : List ℕ → A) where
+  -- the line is refused alike, as whichever of its kind, and says the same where it passes
+  abbrev pub Alike : List ℕ → Type 0
+  Alike line = (j : ℕ) → (refusal j line ≡ other j line) × (refusal j line ≡ 0 → item line ≡ further line)
+
+  pub lines-alike : (left place : ℕ) (rest : List ℕ) (read : List A) → ((k : ℕ) → k < left → Alike (before lineEnd (linesFrom k rest)))
+      → linesOf refusal item left place rest read ≡ linesOf other further left place rest read
+  unfolding linesOf linesFrom
+  lines-alike zero place rest read alike = refl
+  lines-alike (suc left) place rest read alike =
+      ap (λ (n : ℕ). cond (eqb (unless (hasByte lineEnd rest) 2 n) 0) (linesOf refusal item left (suc place) (after lineEnd rest) (more (item line))) (lineRefused (unless (hasByte lineEnd rest) 2 n) place)) (same .0)
+      ∙ go (eqb number 0) refl (lines-alike left (suc place) (after lineEnd rest) (more (further line)) (λ k h. alike (suc k) (omega arith)))
+    where
+      line : List ℕ
+      line = before lineEnd rest
+
+      same : (refusal (length read) line ≡ other (length read) line) × (refusal (length read) line ≡ 0 → item line ≡ further line)
+      same = alike 0 (omega arith) (length read)
+
+      more : A → List A
+      more x = read ++ (x ∷ [])
+
+      number : ℕ
+      number = unless (hasByte lineEnd rest) 2 (other (length read) line)
+
+      go : (t : Bool) → eqb number 0 ≡ t
+          → linesOf refusal item left (suc place) (after lineEnd rest) (more (further line)) ≡ linesOf other further left (suc place) (after lineEnd rest) (more (further line))
+          → cond t (linesOf refusal item left (suc place) (after lineEnd rest) (more (item line))) (lineRefused number place) ≡ cond t (linesOf other further left (suc place) (after lineEnd rest) (more (further line))) (lineRefused number place)
+      go true z ih =
+          let passes = unless-passed (hasByte lineEnd rest) 2 (other (length read) line) (lit≤ tt) (eqb-true number 0 z) .1 in
+          ap (λ (x : A). linesOf refusal item left (suc place) (after lineEnd rest) (more x)) (same .1 (same .0 ∙ passes)) ∙ ih
+      go false z ih = refl

@@ -3,11 +3,12 @@
 --   source-joined, source-apart                which bit an input gets where a bridge joins it, and where none does
 --   sources-show                               the two bits that an input gets, under a bridge or not, have the AND that it shows
 --   input-next, gates-next                     one input's column more, one gate's column more
+--   gate-is-right                              what holds of a gate of a well-formed circuit
 --   slot-shows                                 what is read at a line's slot is what the line shows
 use mathlib.Core.Path.{_≡_, refl, sym, ap, ap₂, _∙_, subst}
 use mathlib.Core.Bool.{Bool, true, false, cond, _&&_}
 use mathlib.Core.List.{List, [], _∷_, _++_}
-use Prim.Native.Nat.{ℕ, zero, suc, _+_, _*_, _-_, _/_, _%_, _^_, _≤_, _<_}
+use Prim.Native.Nat.{ℕ, zero, suc, _+_, _*_, _-_, _%_, _^_, _≤_, _<_}
 use native.Mathlib.Decide.{ℕ-discrete}
 use native.Mathlib.Nat.{lt-of-lt-of-le, div-eq-of-lt}
 use native.Mathlib.Omega.{arith}
@@ -15,19 +16,23 @@ use borrow.Author.Tests.{ltb-true, ltb-false}
 use lib.Dec.{eqb, ltb}
 use lib.ListN.{length, take, getD, replicate, List·getD-eq-default}
 use lib.Pow.{pow-mono}
-use lib.Seq.{getD-append-seam, length-take-le}
+use lib.Seq.{getD-append-seam, getD-take, length-take-le}
 use Rattle.integer.specs.Tab.{tab}
-use Rattle.netlist.specs.Circuits.{Sized}
+use Rattle.netlist.specs.Circuits.{netlistOf, Sized}
+use Rattle.netlist.specs.WellFormed.{WellFormed}
 use Rattle.netlist.specs.declared.Circuit.{Circuit}
-use Rattle.statements.specs.Items.{noGate}
+use Rattle.gate_lines.specs.GateItems.{noGate, linesRead, GateRight}
 use Rattle.statements.specs.declared.Bridge.{Bridge}
 use Rattle.statements.specs.declared.Fault.{Fault}
-use Rattle.statements.specs.declared.Gate.{Gate}
-use Rattle.gates.specs.Gates.{gateValue, shown, applied, joins, appliedUnder}
-use Rattle.gates.specs.Steps.{shownAt, seenAs, Columned, inputRule, gateRule}
-use Rattle.gates.specs.declared.Seen.{Seen}
-use Rattle.gates.proofs.AppliedInputs.{applied-joined, applied-apart}
-use Rattle.simulation.specs.Rows.{inputValues, reads, gateNext, gatesNext}
+use Rattle.gate_lines.specs.declared.Gate.{Gate}
+use Rattle.columns.specs.Shown.{shown, applied, joins, appliedUnder}
+use Rattle.gates.specs.Gates.{gateValue}
+use Rattle.columns.specs.Steps.{shownAt, seenAs, Columned, inputRule}
+use Rattle.evaluation.specs.GateRules.{gateRule}
+use Rattle.columns.specs.declared.Seen.{Seen}
+use Rattle.evaluation.proofs.Widths.{reads-below, map-below}
+use Rattle.columns.proofs.AppliedInputs.{applied-joined, applied-apart}
+use Rattle.simulation.specs.Rows.{inputValues, reads, gateIn, gateNext, gatesNext}
 use Rattle.simulation.specs.Steps.{Columns, inputLines, rowBitOf, sourceOf, slotOf}
 use Rattle.simulation.proofs.LineValues.{length-inputs, length-lines, input-more, gates-more}
 
@@ -152,45 +157,42 @@ pub slot-shows : {values : List Bool} (n : ℕ) (lines : ℕ → List Bool) → 
 slot-shows n lines are line x h few = are .each (slotOf line) x (slot-few line) h ∙ reads-slot (lines x) line few
 
 module _ (f : Fault) (n line : ℕ) (lines : ℕ → List Bool) {values after : List Bool} (small : n ≤ 256) (few : line ≤ 57) (long : (x : ℕ) → x < n → length (lines x) ≡ line) where
-  gate-next : (g : Gate) (s : Seen) → (s .one ≡ shown f line true) × (s .zero ≡ shown f line false)
-      → Columns values n lines → Columned values after line n (gateRule values s (g .kind) (slotOf (g .a)) (slotOf (g .b))) → Columns after n (λ x. gateNext f (lines x) g)
+  gate-next : (g : Gate) (s : Seen) → (s .one ≡ shown f line true) × (s .zero ≡ shown f line false) → GateRight line g
+      → Columns values n lines → Columned values after line n (gateRule values s (g .kind) (linesRead g)) → Columns after n (λ x. gateNext f (lines x) g)
   unfolding gateNext
-  gate-next g s e are made =
-      columns-as n (λ x. lines x ++ (gateRule values s (g .kind) (slotOf (g .a)) (slotOf (g .b)) x ∷ [])) (λ x. gateNext f (lines x) g)
+  gate-next g s e right are made =
+      columns-as n (λ x. lines x ++ (gateRule values s (g .kind) (linesRead g) x ∷ [])) (λ x. gateNext f (lines x) g)
       (λ x h. ap (λ (v : Bool). lines x ++ (v ∷ [])) (shows x h))
-      (next n line lines (gateRule values s (g .kind) (slotOf (g .a)) (slotOf (g .b))) small long are made)
+      (next n line lines (gateRule values s (g .kind) (linesRead g)) small long are made)
     where
-      shows : (x : ℕ) → x < n → gateRule values s (g .kind) (slotOf (g .a)) (slotOf (g .b)) x ≡ shown f (length (lines x)) (gateValue (g .kind) (reads (lines x) (g .a)) (reads (lines x) (g .b)))
+      shows : (x : ℕ) → x < n → gateRule values s (g .kind) (linesRead g) x ≡ shown f (length (lines x)) (gateIn (lines x) g)
       shows x h =
-          let short : length (lines x) ≤ 57 = omega (arith, long x h) in
           seen-is f line s e _
-          ∙ ap₂ (λ (a b : Bool). shown f line (gateValue (g .kind) a b)) (slot-shows n lines are (g .a) x h short) (slot-shows n lines are (g .b) x h short)
-          ∙ ap (λ (k : ℕ). shown f k (gateValue (g .kind) (reads (lines x) (g .a)) (reads (lines x) (g .b)))) (sym (long x h))
+          ∙ ap (λ (l : List Bool). shown f line (gateValue (g .kind) l))
+          (map-below line (λ a. shownAt values a x) (reads (lines x)) (linesRead g) (λ a k. are .each a x (omega arith) h) (reads-below line g right))
+          ∙ ap (λ (k : ℕ). shown f k (gateIn (lines x) g)) (sym (long x h))
 
 -- the lines of row x with the inputs and the first j gates
 abbrev pub linesTo : Circuit → Fault → ℕ → ℕ → List Bool
 linesTo c f j x = gatesNext f (inputValues f x (c .head .inputs)) (take j (c .gates))
 
-pub gates-next : (c : Circuit) (f : Fault) (n j : ℕ) {values after : List Bool} {a b : ℕ} → n ≤ 256 → Sized c → length (c .gates) ≡ 48 → j < c .head .gates
+pub gates-next : (c : Circuit) (f : Fault) (n j : ℕ) {values after : List Bool} → n ≤ 256 → Sized c → length (c .gates) ≡ 48 → j < c .head .gates
     → (s : Seen) → (s .one ≡ shown f (c .head .inputs + j + 1) true) × (s .zero ≡ shown f (c .head .inputs + j + 1) false)
-    → a ≡ slotOf (getD (c .gates) j noGate .a) → b ≡ slotOf (getD (c .gates) j noGate .b) → Columns values n (linesTo c f j)
-    → Columned values after (c .head .inputs + j + 1) n (gateRule values s (getD (c .gates) j noGate .kind) a b) → Columns after n (linesTo c f (j + 1))
-gates-next c f n j {values} {after} {a} {b} small size room h s e first second are made =
-    columns-as n (λ x. gateNext f (linesTo c f j x) g) (linesTo c f (j + 1)) (λ x l. gates-more f (inputValues f x (c .head .inputs)) (c .gates) j (omega (arith, size .gates)))
-    (gate-next f n line (linesTo c f j) small (omega (arith, size .inputs, size .gates)) long g s e are at-slots)
+    → GateRight (c .head .inputs + j + 1) (getD (c .gates) j noGate) → Columns values n (linesTo c f j)
+    → Columned values after (c .head .inputs + j + 1) n (gateRule values s (getD (c .gates) j noGate .kind) (linesRead (getD (c .gates) j noGate))) → Columns after n (linesTo c f (j + 1))
+gates-next c f n j small size room h s e right are made =
+    columns-as n (λ x. gateNext f (linesTo c f j x) (getD (c .gates) j noGate)) (linesTo c f (j + 1))
+    (λ x l. gates-more f (inputValues f x (c .head .inputs)) (c .gates) j (omega (arith, size .gates)))
+    (gate-next f n (c .head .inputs + j + 1) (linesTo c f j) small (omega (arith, size .inputs, size .gates)) long (getD (c .gates) j noGate) s e right are made)
   where
-    line : ℕ
-    line = c .head .inputs + j + 1
-
-    g : Gate
-    g = getD (c .gates) j noGate
-
-    long : (x : ℕ) → x < n → length (linesTo c f j x) ≡ line
+    long : (x : ℕ) → x < n → length (linesTo c f j x) ≡ c .head .inputs + j + 1
     long x l =
         length-lines f (inputValues f x (c .head .inputs)) (take j (c .gates))
         ∙ omega (arith, length-inputs f x (c .head .inputs), length-take-le j (c .gates) (omega (arith, size .gates)))
 
-    at-slots : Columned values after line n (gateRule values s (g .kind) (slotOf (g .a)) (slotOf (g .b)))
-    at-slots =
-        subst (λ (k : ℕ). Columned values after line n (gateRule values s (g .kind) (slotOf (g .a)) k)) second
-        (subst (λ (k : ℕ). Columned values after line n (gateRule values s (g .kind) k b)) first made)
+-- of a well-formed circuit, as its array has them
+pub gate-is-right : (c : Circuit) (j : ℕ) → WellFormed (netlistOf c) → length (c .gates) ≡ 48 → Sized c → j < c .head .gates → GateRight (c .head .inputs + j + 1) (getD (c .gates) j noGate)
+unfolding netlistOf
+gate-is-right c j w room size h =
+    subst (GateRight (c .head .inputs + j + 1)) (getD-take (c .head .gates) (c .gates) j noGate h)
+    (w .gates-right j (omega (arith, length-take-le (c .head .gates) (c .gates) (omega (arith, size .gates)))))

@@ -1,7 +1,7 @@
 -- Line values satisfy the circuit's equations, whatever the order in which they are worked out:
 --   input-lines    an input's line shows what it gets, seen through the fault: what is applied to it, and under a bridge the AND of both
---   gate-lines     a gate's line shows its kind's value of the lines that it reads, as they are shown, seen through the fault
-use mathlib.Core.Path.{_≡_, refl, sym, ap, ap₂, _∙_, subst}
+--   gate-lines     a gate's line shows its kind's value of all the lines that it reads, as they are shown, seen through the fault
+use mathlib.Core.Path.{_≡_, refl, sym, ap, _∙_, subst}
 use mathlib.Core.Bool.{Bool}
 use mathlib.Core.List.{List, [], _∷_}
 use Prim.Native.Nat.{ℕ, zero, suc, _+_, _<_}
@@ -10,19 +10,18 @@ use native.Mathlib.Numerals.{add-one}
 use native.Mathlib.Omega.{arith}
 use lib.ListN.{length, getD, List·getD-append}
 use lib.Seq.{getD-append-seam}
+use Rattle.integer.specs.ListTests.{Below}
 use Rattle.integer.proofs.Tabs.{getD-tab}
+use Rattle.evaluation.proofs.Widths.{reads-below, map-below}
 use Rattle.netlist.specs.Circuits.{Netlist}
 use Rattle.netlist.specs.WellFormed.{WellFormed}
-use Rattle.statements.specs.Items.{noGate}
+use Rattle.gate_lines.specs.GateItems.{noGate, linesRead}
 use Rattle.statements.specs.declared.Fault.{Fault}
-use Rattle.statements.specs.declared.Gate.{Gate}
-use Rattle.gates.specs.Gates.{gateValue, shown, appliedUnder}
-use Rattle.simulation.specs.Rows.{inputShown, inputValues, reads, gateNext, gatesNext, lineValues}
+use Rattle.gate_lines.specs.declared.Gate.{Gate}
+use Rattle.columns.specs.Shown.{shown, appliedUnder}
+use Rattle.gates.specs.Gates.{gateValue}
+use Rattle.simulation.specs.Rows.{inputShown, inputValues, reads, gateIn, gateNext, gatesNext, lineValues}
 use Rattle.simulation.proofs.LineValues.{length-inputs, length-next}
-
--- a gate's value of the lines that it reads in l
-abbrev pub gateIn : List Bool → Gate → Bool
-gateIn l g = gateValue (g .kind) (reads l (g .a)) (reads l (g .b))
 
 module _ (f : Fault) where
   seam : (l : List Bool) (g : Gate) → reads (gateNext f l g) (length l) ≡ shown f (length l) (gateIn l g)
@@ -37,24 +36,23 @@ module _ (f : Fault) where
       let more : i < length (gateNext f l g) = omega (arith, length-next f l g) in
       kept gates (gateNext f l g) i more ∙ List·getD-append l (shown f (length l) (gateIn l g) ∷ []) _ i h
 
-  nth-gate : (gates : List Gate) (l : List Bool) (j : ℕ) → j < length gates
-      → getD gates j noGate .a < length l + j → getD gates j noGate .b < length l + j
+  nth-gate : (gates : List Gate) (l : List Bool) (j : ℕ) → j < length gates → Below (length l + j) (linesRead (getD gates j noGate))
       → reads (gatesNext f l gates) (length l + j) ≡ shown f (length l + j) (gateIn (gatesNext f l gates) (getD gates j noGate))
   unfolding gatesNext
-  nth-gate [] l j h a b = absurd (omega arith)
-  nth-gate (g ∷ gates) l zero h a b =
+  nth-gate [] l j h low = absurd (omega arith)
+  nth-gate (g ∷ gates) l zero h low =
       let all = gatesNext f (gateNext f l g) gates in
       let own : length l < length (gateNext f l g) = omega (arith, length-next f l g) in
       let same : (i : ℕ) → i < length l + 0 → reads l i ≡ reads all i = λ i k. sym (kept (g ∷ gates) l i (subst (λ n. i < n) (add-zero (length l)) k)) in
       subst (λ n. reads all n ≡ shown f n (gateIn all g)) (sym (add-zero (length l)))
       (kept gates (gateNext f l g) (length l) own
       ∙ seam l g
-      ∙ ap (shown f (length l)) (ap₂ (gateValue (g .kind)) (same (g .a) a) (same (g .b) b)))
-  nth-gate (g ∷ gates) l (suc j) h a b =
+      ∙ ap (λ (bits : List Bool). shown f (length l) (gateValue (g .kind) bits)) (map-below (length l + 0) (reads l) (reads all) (linesRead g) same low))
+  nth-gate (g ∷ gates) l (suc j) h low =
       let e : length (gateNext f l g) + j ≡ length l + suc j = omega (arith, length-next f l g) in
       let all = gatesNext f (gateNext f l g) gates in
       subst (λ n. reads all n ≡ shown f n (gateIn all (getD gates j noGate))) e
-      (nth-gate gates (gateNext f l g) j (omega arith) (omega (arith, length-next f l g)) (omega (arith, length-next f l g)))
+      (nth-gate gates (gateNext f l g) j (omega arith) (subst (λ (n : ℕ). Below n (linesRead (getD gates j noGate))) (sym e) low))
 
 module _ (n : Netlist) (f : Fault) (x : ℕ) where
   pub input-lines : (i : ℕ) → i < n .inputs → reads (lineValues n f x) (i + 1) ≡ shown f (i + 1) (appliedUnder (f .bridge) x i)
@@ -69,8 +67,8 @@ module _ (n : Netlist) (f : Fault) (x : ℕ) where
   unfolding lineValues
   gate-lines j w h =
       let l = inputValues f x (n .inputs) in
-      let r = w .gates-right j h in
       let e : length l + j ≡ n .inputs + j + 1 = omega (arith, length-inputs f x (n .inputs)) in
       let all = gatesNext f l (n .gates) in
+      let low = reads-below (n .inputs + j + 1) (getD (n .gates) j noGate) (w .gates-right j h) in
       subst (λ k. reads all k ≡ shown f k (gateIn all (getD (n .gates) j noGate))) e
-      (nth-gate f (n .gates) l j h (omega (arith, r .first-below)) (omega (arith, r .second-below)))
+      (nth-gate f (n .gates) l j h (subst (λ (k : ℕ). Below k (linesRead (getD (n .gates) j noGate))) (sym e) low))

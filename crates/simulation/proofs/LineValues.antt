@@ -13,12 +13,12 @@ use lib.Seq.{take-suc}
 use Rattle.integer.specs.Tab.{tab}
 use Rattle.integer.proofs.Tabs.{length-tab}
 use Rattle.netlist.specs.Circuits.{netlistOf, Sized}
-use Rattle.gates.specs.Gates.{gateValue, shown}
+use Rattle.columns.specs.Shown.{shown}
 use Rattle.netlist.specs.declared.Circuit.{Circuit}
-use Rattle.statements.specs.Items.{noGate}
+use Rattle.gate_lines.specs.GateItems.{noGate}
 use Rattle.statements.specs.declared.Fault.{Fault}
-use Rattle.statements.specs.declared.Gate.{Gate}
-use Rattle.simulation.specs.Rows.{inputShown, inputValues, reads, gateNext, gatesNext, lineValues}
+use Rattle.gate_lines.specs.declared.Gate.{Gate}
+use Rattle.simulation.specs.Rows.{inputShown, inputValues, gateIn, gateNext, gatesNext, lineValues}
 
 module _ (f : Fault) (x : ℕ) where
   pub length-inputs : (n : ℕ) → length (inputValues f x n) ≡ n + 1
@@ -37,7 +37,7 @@ module _ (f : Fault) where
 
   pub length-next : (l : List Bool) (g : Gate) → length (gateNext f l g) ≡ length l + 1
   unfolding gateNext
-  length-next l g = length-append l (shown f (length l) (gateValue (g .kind) (reads l (g .a)) (reads l (g .b))) ∷ [])
+  length-next l g = length-append l (shown f (length l) (gateIn l g) ∷ [])
 
   pub length-lines : (l : List Bool) (gates : List Gate) → length (gatesNext f l gates) ≡ length l + length gates
   unfolding gatesNext

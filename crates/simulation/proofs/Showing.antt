@@ -14,8 +14,8 @@ use Rattle.sections.specs.FaultLines.{Above, StuckFault, BridgeFault}
 use Rattle.sections.proofs.FaultsRight.{free-line}
 use Rattle.statements.specs.Items.{noBridge, sound}
 use Rattle.statements.specs.declared.Fault.{Fault}
-use Rattle.gates.specs.Gates.{stuckOr, shown, applied, joins}
-use Rattle.gates.proofs.AppliedInputs.{applied-joined, applied-apart, applied-unbridged}
+use Rattle.columns.specs.Shown.{stuckOr, shown, applied, joins}
+use Rattle.columns.proofs.AppliedInputs.{applied-joined, applied-apart, applied-unbridged}
 use Rattle.simulation.specs.Rows.{inputShown}
 
 module _ (f : Fault) (v : Bool) where

@@ -15,8 +15,8 @@ use Rattle.statements.specs.Items.{noOutput}
 use Rattle.statements.specs.declared.Bridge.{Bridge}
 use Rattle.statements.specs.declared.Fault.{Fault}
 use Rattle.statements.specs.declared.Output.{Output}
-use Rattle.gates.specs.Gates.{joins}
-use Rattle.gates.specs.Steps.{shownAt}
+use Rattle.columns.specs.Shown.{joins}
+use Rattle.columns.specs.Steps.{shownAt}
 use Rattle.simulation.specs.Rows.{inputValues, reads, weighed}
 
 -- line values of the row x are `lines x`; a line after the last shows 0

@@ -10,6 +10,7 @@ ghost use lib.IntN.{natAbs};
 ghost use lib.ListN.{length};
 ghost use Rattle.integer.specs.Tab.{tab};
 ghost use Rattle.netlist.specs.Circuits.{netlistOf, Sized};
+ghost use Rattle.netlist.specs.WellFormed.{WellFormed};
 ghost use Rattle.simulation.specs.Rows.{lineValues, weighed, rowsOf};
 ghost use Rattle.simulation.specs.Steps.{Columns, inputLines, rowBitOf, sourceOf, slotOf, readSum};
 
@@ -42,21 +43,14 @@ fn input_columns(values: &mut [bool], f: Fault, inputs: usize, n: usize)
     while i < inputs {
         let p = source(f.bridge, i, f.bridge.first);
         let q = source(f.bridge, i, f.bridge.second);
-        gates::input_column(values, i, p, q, gates::through(f, i + 1), n);
+        columns::input_column(values, i, p, q, columns::through(f, i + 1), n);
         i += 1;
     }
 }
 
-// Where a line's column is read: past the last line there is one column more, which is always false.
-fn slot(line: u16) -> usize
-    ensures { λ r. ⌜ (r ≡ slotOf line) × (r ≤ 57) ⌝ }
-{
-    if line < 57 { line as usize } else { 57 }
-}
-
 // The columns of the gates, after those of the inputs.
 fn gate_columns(values: &mut [bool], c: Circuit, f: Fault, n: usize)
-    requires { ⌜ Sized c × (length (now values) ≡ 14848) × (n ≤ 256) × Columns (now values) n (inputLines f (c .head .inputs)) ⌝ }
+    requires { ⌜ Sized c × WellFormed (netlistOf c) × (length (now values) ≡ 14848) × (n ≤ 256) × Columns (now values) n (inputLines f (c .head .inputs)) ⌝ }
     ensures { λ _. ⌜ Columns (now (values .exit)) n (lineValues (netlistOf c) f) ⌝ }
 {
     let inputs = c.head.inputs;
@@ -64,11 +58,8 @@ fn gate_columns(values: &mut [bool], c: Circuit, f: Fault, n: usize)
     let mut j: usize = 0;
     while j < count {
         let gate = c.gates[j];
-        let kind = gate.kind;
-        let a = slot(gate.a);
-        let b = slot(gate.b);
         let line = inputs + j + 1;
-        gates::kind_column(values, kind, a, b, line, gates::through(f, line), n);
+        evaluation::gate_column(values, gate, line, columns::through(f, line), n);
         j += 1;
     }
 }
@@ -77,6 +68,13 @@ fn weigh(shows: bool, weight: i16) -> i32
     ensures { λ r. ⌜ (r ≡ weighed shows weight) × (natAbs r ≤ 32768) ⌝ }
 {
     if shows { weight as i32 } else { 0 }
+}
+
+// Where a line's column is read: past the last line there is one column more, which is always false.
+fn slot(line: u16) -> usize
+    ensures { λ r. ⌜ (r ≡ slotOf line) × (r ≤ 57) ⌝ }
+{
+    if line < 57 { line as usize } else { 57 }
 }
 
 // The row's value: the sum of the weights of the outputs that show 1.
@@ -109,7 +107,7 @@ fn row_values(values: &[bool], outputs: [Output; 4], count: usize, out: &mut [i3
 
 // The rows of the circuit under a fault: a column for each line, one value a row, and each row's value from them.
 pub fn rows(c: Circuit, f: Fault, out: &mut [i32])
-    requires { ⌜ Sized c × (length (now out) ≡ 2 ^ c .head .inputs) ⌝ }
+    requires { ⌜ Sized c × WellFormed (netlistOf c) × (length (now out) ≡ 2 ^ c .head .inputs) ⌝ }
     ensures { λ _. ⌜ now (out .exit) ≡ rowsOf (netlistOf c) f ⌝ }
 {
     let n = out.len();

@@ -1,62 +1,30 @@
 -- The tests of a line ask of its fields what `LineForms` asks of the numbers that it is written from:
---   head-form, gate-form, output-form, fault-form, bridge-form    for each kind of line
+--   head-form, output-form, fault-form, bridge-form    for each kind of line
 --   fault-line-form                                     a fault line is answered as a line of its form
---   both-mean, at-most-means, below-means, range-means, there-means    what single tests mean
---   gate-kind, gate-value                               what is read of a gate's line
 --   PairCount, fault-formed                             the fields of a fault line: a word and the numbers of one to three pairs
 --   bridge-named, fault-unnamed, word-told              its word tells a bridge from a fault of stuck lines
 use mathlib.Core.Path.{_≡_, refl, sym, ap, _∙_, subst}
-use mathlib.Core.Bool.{Bool, true, false, cond, _&&_, _||_, false≢true}
-use mathlib.Core.List.{List, [], _∷_, _++_, map}
+use mathlib.Core.Bool.{Bool, true, false, cond, _||_, false≢true}
+use mathlib.Core.List.{List, [], _∷_}
 use mathlib.Core.Logic.{_↔_, Iff·trans, _⊎_, inl, inr, ⊎-map}
 use Prim.Native.Nat.{ℕ, zero, suc, _+_, _-_, _<_, _≤_}
 use native.Mathlib.Nat.{lt-of-not-le}
 use native.Mathlib.Decide.{decLe}
 use native.Mathlib.Omega.{arith}
-use lib.Dec.{eqb, leb, ltb}
-use lib.IntN.{pos}
+use lib.Dec.{eqb, leb}
 use lib.ListN.{length, getD, List·getD-eq-default}
-use borrow.Author.Tests.{leb-true, ltb-true, eqb-true, le-leb, lt-leb, lt-ltb, eq-eqb}
+use borrow.Author.Tests.{eqb-true}
 use Rattle.integer.proofs.Bools.{both, either}
-use Rattle.text.specs.Text.{comma, indexOf, fieldOf, fieldCount, sameBytes}
+use Rattle.text.specs.Text.{indexOf, fieldOf, fieldCount, sameBytes}
 use Rattle.text.proofs.Words.{same-self}
 use Rattle.writing.specs.Writing.{Small}
-use Rattle.writing.proofs.LineFields.{next-field, word-field}
-use Rattle.fields.specs.Fields.{inRange, fits, isLine, valueAt, Fails, LeastFailing}
-use Rattle.fields.proofs.JoinedLines.{valuesFrom, values-small, line-joined, two-words-joined, line-form, word-is}
-use Rattle.fields.proofs.PlainLines.{range, in-range, plain-count, plain-value, plain-numbers, plain-line, value-after-word, line-after-word}
-use Rattle.kinds.specs.Kinds.{kindWord, isKind, kindOf}
-use Rattle.kinds.specs.declared.Kind.{Kind}
-use Rattle.kinds.specs.declared.Kind.the-variants.{And, Or, Nand, Nor, Xor, Xnor, Not}
-use Rattle.kinds.proofs.KindWords.{kind-written, kind-only}
-use Rattle.statements.specs.Lines.{circuitWord, gateWord, outputWord, faultWord, bridgeWord, isHead, headFits, isGate, secondFits, gateFits, readsBelow, isOutput, outputFits, isFault, pairInRange, pairFits, faultFits, linesExist, risesAt, linesRise, faultRefusal, isBridge, bridgeFits, inputsRise, bridgeRefusal, namesBridge, faultLineRefusal}
-use Rattle.statements.specs.LineForms.{lineFrom, HeadForm, SecondInRange, gateFrom, GateForm, OutputForm, flatPairs, lineOfPair, valueOfPair, FaultPairs, FaultForm, BridgeForm, FaultLineForm}
+use Rattle.fields.specs.Fields.{fits, isLine, valueAt, Fails, LeastFailing, lineFrom}
+use Rattle.fields.proofs.JoinedLines.{valuesFrom, values-small, line-joined, line-form, word-is}
+use Rattle.fields.proofs.TestsMean.{both-mean, at-most-means, below-means, range-means, there-means}
+use Rattle.fields.proofs.PlainLines.{range, plain-count, plain-value, plain-line}
+use Rattle.statements.specs.Lines.{circuitWord, outputWord, faultWord, bridgeWord, isHead, headFits, isOutput, outputFits, isFault, pairInRange, pairFits, faultFits, linesExist, risesAt, linesRise, faultRefusal, isBridge, bridgeFits, inputsRise, bridgeRefusal, namesBridge, faultLineRefusal}
+use Rattle.statements.specs.LineForms.{HeadForm, OutputForm, flatPairs, lineOfPair, valueOfPair, FaultPairs, FaultForm, BridgeForm, FaultLineForm}
 use Rattle.statements.proofs.LineNumbers.{fault-least, bridge-least}
-
--- ---- tests and what they mean
-
-pub both-mean : {A B : Type 0} {a b : Bool} → (a ≡ true) ↔ A → (b ≡ true) ↔ B → ((a && b) ≡ true) ↔ (A × B)
-both-mean {a = a} {b = b} f g = (λ e. let t = both a b e in (f .0 (t .0), g .0 (t .1)), λ t. rw (f .1 (t .0)) (g .1 (t .1)))
-
-pub at-most-means : {a b v w : ℕ} → v ≡ a → w ≡ b → (leb v w ≡ true) ↔ (a ≤ b)
-at-most-means {a = a} {b = b} e f = rw (e, f) (leb-true a b, le-leb a b)
-
-pub below-means : {a b v w : ℕ} → v ≡ a → w ≡ b → (ltb v w ≡ true) ↔ (a < b)
-below-means {a = a} {b = b} e f = rw (e, f) (ltb-true a b, lt-ltb a b)
-
-pub range-means : {a v : ℕ} → v ≡ a → (low high : ℕ) → (inRange v low high ≡ true) ↔ ((low ≤ a) × (a ≤ high))
-range-means {a = a} e low high = rw e (range a low high, λ t. in-range a low high (t .0) (t .1))
-
--- a test of something that is there where k is below n
-pub there-means : {A : Type 0} (n k : ℕ) {b : Bool} → (b ≡ true) ↔ A → ((leb n k || b) ≡ true) ↔ (k < n → A)
-there-means {A = A} n k {b = b} f = (there, back (decLe n k))
-  where
-    there : (leb n k || b) ≡ true → k < n → A
-    there e h = f .0 (subst (λ (t : Bool). (t || b) ≡ true) (lt-leb n k h) e)
-
-    back : Dec (n ≤ k) → (k < n → A) → (leb n k || b) ≡ true
-    back (yes none) g = rw (le-leb n k none)
-    back (no some) g = rw (lt-leb n k (lt-of-not-le some)) (f .1 (g (lt-of-not-le some)))
 
 -- ---- the first line
 
@@ -98,68 +66,6 @@ output-form =
       form = λ l. line-form l outputWord 2 refl;
       range = output-range;
       exists = λ top line weight small. at-most-means (output-value line weight small 0) refl;
-    }
-
--- ---- gates
-
-second-means : (kind : Kind) (b : ℕ) → (secondFits kind b ≡ true) ↔ SecondInRange kind b
-unfolding secondFits
-second-means And b = range-means refl 1 56
-second-means Or b = range-means refl 1 56
-second-means Nand b = range-means refl 1 56
-second-means Nor b = range-means refl 1 56
-second-means Xor b = range-means refl 1 56
-second-means Xnor b = range-means refl 1 56
-second-means Not b = (eqb-true b 0, eq-eqb b 0)
-
-module _ (kind : Kind) (a b : ℕ) (small : Small (a ∷ b ∷ [])) where
-  -- from the kind on
-  abbrev after-gate : List ℕ
-  after-gate = lineFrom (kindWord kind) (a ∷ b ∷ [])
-
-  pub gate-kind : fieldOf (gateFrom kind a b) 1 ≡ kindWord kind
-  unfolding indexOf
-  gate-kind = next-field gateWord after-gate refl 0 ∙ word-field (kindWord kind) (map pos (a ∷ b ∷ [])) (kind-written kind .one-field)
-
-  pub gate-value : (k : ℕ) → valueAt (gateFrom kind a b) (suc (suc k)) ≡ getD (a ∷ b ∷ []) k 0
-  unfolding indexOf
-  gate-value k = value-after-word gateWord after-gate refl (suc k) ∙ plain-value (kindWord kind) (a ∷ b ∷ []) small (kind-written kind .one-field) k
-
-  gate-formed : isGate (gateFrom kind a b) ≡ true
-  unfolding isGate indexOf
-  gate-formed =
-      let one = kind-written kind .one-field in
-      rw (
-        line-after-word gateWord after-gate refl 1 3 (plain-count (kindWord kind) (a ∷ b ∷ []) small one) (plain-numbers (kindWord kind) (a ∷ b ∷ []) small one),
-        gate-kind,
-        kind-written kind .known,
-      )
-
-  gate-range : (gateFits (gateFrom kind a b) ≡ true) ↔ ((1 ≤ a) × (a ≤ 56) × SecondInRange kind b)
-  unfolding gateFits fits
-  gate-range = Iff·trans (both-mean (range-means (gate-value 0) 1 56) second) (λ t. (t .0 .0, t .0 .1, t .1), λ t. ((t .0, t .1), t .2))
-    where
-      second : (secondFits (kindOf (fieldOf (gateFrom kind a b) 1)) (valueAt (gateFrom kind a b) 3) ≡ true) ↔ SecondInRange kind b
-      second = rw (gate-kind, kind-written kind .read, gate-value 1) (second-means kind b)
-
-gate-joined : (l : List ℕ) → isGate l ≡ true → (kind : Kind) × (a : ℕ) × (b : ℕ) × Small (a ∷ b ∷ []) × (l ≡ gateFrom kind a b)
-unfolding isGate
-gate-joined l e =
-    let f = both (isLine l gateWord 2 4) (isKind (fieldOf l 1)) e in (
-      kindOf (fieldOf l 1),
-      valueAt l 2,
-      valueAt l 3,
-      values-small l 2 2,
-      two-words-joined l gateWord 2 (f .0) ∙ ap (λ (w : List ℕ). lineFrom (gateWord ++ (comma ∷ w)) (valueAt l 2 ∷ valueAt l 3 ∷ [])) (kind-only (fieldOf l 1) (f .1)),
-    )
-
-pub gate-form : GateForm
-unfolding readsBelow
-gate-form =
-    record {
-      form = λ l. (gate-joined l, λ t. ap isGate (t .4) ∙ gate-formed (t .0) (t .1) (t .2) (t .3));
-      range = gate-range;
-      below = λ own kind a b small. both-mean (below-means (gate-value kind a b small 0) refl) (below-means (gate-value kind a b small 1) refl);
     }
 
 -- ---- faults

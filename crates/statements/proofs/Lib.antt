@@ -1,3 +1,2 @@
-pub mod SecondLines
 pub mod LineNumbers
 pub mod FormsMeant

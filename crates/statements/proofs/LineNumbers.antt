@@ -1,12 +1,12 @@
 -- The number of a line, for each kind:
---   head-least, gate-least, output-least, fault-least, bridge-least    it is the least number of a test that fails, "2, 3, then 4, 5, 6"
---   head-number, gate-number, output-number, fault-number              it is 0 or 2 to 6
+--   head-least, output-least, fault-least, bridge-least    it is the least number of a test that fails, "2, 3, then 4, 5, 6"
+--   head-number, output-number, fault-number              it is 0 or 2 to 6
 use mathlib.Core.List.{List}
 use Prim.Native.Nat.{ℕ}
 use lib.Dec.{lit≤, lit<}
 use Rattle.fields.specs.Fields.{LeastFailing}
 use Rattle.fields.proofs.Chains.{LineNumber, RisingTests, chain-least, chain-number}
-use Rattle.statements.specs.Lines.{headTests, headRefusal, gateTests, gateRefusal, outputTests, outputRefusal, faultTests, faultRefusal, bridgeTests, bridgeRefusal}
+use Rattle.statements.specs.Lines.{headTests, headRefusal, outputTests, outputRefusal, faultTests, faultRefusal, bridgeTests, bridgeRefusal}
 
 module _ (l : List ℕ) where
   head-rising : RisingTests 6 1 (headTests l)
@@ -19,18 +19,6 @@ module _ (l : List ℕ) where
   pub head-number : LineNumber (headRefusal l)
   unfolding headRefusal
   head-number = chain-number 1 (headTests l) (lit≤ tt) head-rising
-
-module _ (own : ℕ) (l : List ℕ) where
-  gate-rising : RisingTests 6 1 (gateTests own l)
-  gate-rising = (lit< tt, (lit< tt, (lit< tt, lit≤ tt)))
-
-  pub gate-least : LeastFailing (gateTests own l) (gateRefusal own l)
-  unfolding gateRefusal
-  gate-least = chain-least 6 1 (gateTests own l) gate-rising
-
-  pub gate-number : LineNumber (gateRefusal own l)
-  unfolding gateRefusal
-  gate-number = chain-number 1 (gateTests own l) (lit≤ tt) gate-rising
 
 module _ (top : ℕ) (l : List ℕ) where
   output-rising : RisingTests 6 1 (outputTests top l)

@@ -3,48 +3,20 @@
 -- (proofs/FormsMeant).
 use Prim.Native.Nat.{ℕ, suc, _<_, _≤_}
 use mathlib.Core.Bool.{true}
-use mathlib.Core.List.{List, [], _∷_, _++_, map}
+use mathlib.Core.List.{List, [], _∷_}
 use mathlib.Core.Logic.{_↔_}
 use mathlib.Core.Path.{_≡_}
 use lib.Dec.{leb}
-use lib.IntN.{pos}
 use lib.ListN.{length, getD}
-use Rattle.text.specs.Text.{comma}
-use Rattle.writing.specs.Writing.{Small, numbersOf}
-use Rattle.fields.specs.Fields.{valueAt}
-use Rattle.kinds.specs.Kinds.{kindWord}
-use Rattle.kinds.specs.declared.Kind.{Kind}
-use Rattle.kinds.specs.declared.Kind.the-variants.{And, Or, Nand, Nor, Xor, Xnor, Not}
-use Rattle.statements.specs.Lines.{circuitWord, gateWord, outputWord, faultWord, bridgeWord, isHead, headFits, isGate, gateFits, readsBelow, isOutput, outputFits, isFault, faultFits, linesExist, linesRise, faultRefusal, isBridge, bridgeFits, inputsRise, bridgeRefusal, faultLineRefusal}
-
--- a line without its end: a word, then numbers, each after a comma
-abbrev pub lineFrom : List ℕ → List ℕ → List ℕ
-lineFrom word ns = word ++ numbersOf (map pos ns)
+use Rattle.writing.specs.Writing.{Small}
+use Rattle.fields.specs.Fields.{lineFrom, valueAt}
+use Rattle.statements.specs.Lines.{circuitWord, outputWord, faultWord, bridgeWord, isHead, headFits, isOutput, outputFits, isFault, faultFits, linesExist, linesRise, faultRefusal, isBridge, bridgeFits, inputsRise, bridgeRefusal, faultLineRefusal}
 
 -- "`circuit,N,G,M,Q,K`: N inputs (1 to 8), G gates (0 to 48), M outputs (1 to 4), Q faults (1 to 32), cap K (1 to 4)"
 pub record HeadForm : Type 0 where
   pub form : (l : List ℕ) → (isHead l ≡ true) ↔ ((ns : List ℕ) × Small ns × (length ns ≡ 5) × (l ≡ lineFrom circuitWord ns))
   pub range : (n g m q k : ℕ) → let ns = n ∷ g ∷ m ∷ q ∷ k ∷ [] in Small ns
       → (headFits (lineFrom circuitWord ns) ≡ true) ↔ ((1 ≤ n) × (n ≤ 8) × (g ≤ 48) × (1 ≤ m) × (m ≤ 4) × (1 ≤ q) × (q ≤ 32) × (1 ≤ k) × (k ≤ 4))
-
--- "B is 1 to 56, and 0 for `not`"
-abbrev pub SecondInRange : Kind → ℕ → Type 0
-SecondInRange And b = (1 ≤ b) × (b ≤ 56)
-SecondInRange Or b = (1 ≤ b) × (b ≤ 56)
-SecondInRange Nand b = (1 ≤ b) × (b ≤ 56)
-SecondInRange Nor b = (1 ≤ b) × (b ≤ 56)
-SecondInRange Xor b = (1 ≤ b) × (b ≤ 56)
-SecondInRange Xnor b = (1 ≤ b) × (b ≤ 56)
-SecondInRange Not b = b ≡ 0
-
-abbrev pub gateFrom : Kind → ℕ → ℕ → List ℕ
-gateFrom kind a b = lineFrom (gateWord ++ (comma ∷ kindWord kind)) (a ∷ b ∷ [])
-
--- "G lines `gate,KIND,A,B`": "A is 1 to 56", "Each of A and B is below the gate's own line."
-pub record GateForm : Type 0 where
-  pub form : (l : List ℕ) → (isGate l ≡ true) ↔ ((kind : Kind) × (a : ℕ) × (b : ℕ) × Small (a ∷ b ∷ []) × (l ≡ gateFrom kind a b))
-  pub range : (kind : Kind) (a b : ℕ) → Small (a ∷ b ∷ []) → (gateFits (gateFrom kind a b) ≡ true) ↔ ((1 ≤ a) × (a ≤ 56) × SecondInRange kind b)
-  pub below : (own : ℕ) (kind : Kind) (a b : ℕ) → Small (a ∷ b ∷ []) → (readsBelow own (gateFrom kind a b) ≡ true) ↔ ((a < own) × (b < own))
 
 -- "M lines `output,LINE,WEIGHT`: LINE 1 to 56, WEIGHT 1 to 15."
 pub record OutputForm : Type 0 where

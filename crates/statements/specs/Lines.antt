@@ -1,4 +1,4 @@
--- What each line of the circuit text says, and the number by which a line is refused (document 01, "The circuit text", "What is returned"):
+-- What the head, an output and a fault of the circuit text say, and the number by which such a line is refused (document 01, "The circuit text", "What is returned"):
 --   "within a line 2, 3, then 4, 5, 6"
 -- and of a bridge (document 02, note 8): "Turned away: 19 where I or J is above N or they do not rise, in the place of 5 and 6."
 -- A field that is no number, or is not there, counts as 0 where its value is asked; a line with a bad number is refused before that matters.
@@ -8,22 +8,15 @@ use mathlib.Core.List.{List, [], _∷_}
 use lib.Dec.{eqb, leb, ltb}
 use lib.IntN.{pos}
 use Rattle.text.specs.Text.{bytesOf, fieldOf, fieldCount, sameBytes}
-use Rattle.kinds.specs.declared.Kind.{Kind}
-use Rattle.kinds.specs.declared.Kind.the-variants.{And, Or, Nand, Nor, Xor, Xnor, Not}
 use Rattle.fields.specs.Fields.{fits, inRange, isLine, unless, valueAt}
-use Rattle.kinds.specs.Kinds.{isKind, kindOf}
 use Rattle.statements.specs.Items.{free, noBridge}
 use Rattle.statements.specs.declared.Fault.{Fault}
-use Rattle.statements.specs.declared.Gate.{Gate}
 use Rattle.statements.specs.declared.Head.{Head}
 use Rattle.statements.specs.declared.Output.{Output}
 use Rattle.statements.specs.declared.Pair.{Pair}
 
 abbrev pub circuitWord : List ℕ
 circuitWord = bytesOf "circuit"
-
-abbrev pub gateWord : List ℕ
-gateWord = bytesOf "gate"
 
 abbrev pub outputWord : List ℕ
 outputWord = bytesOf "output"
@@ -46,33 +39,6 @@ headRefusal l = unless (isHead l) 2 (unless (headFits l) 3 0)
 
 unfoldable pub headOf : List ℕ → Head
 headOf l = record { inputs = valueAt l 1; gates = valueAt l 2; outputs = valueAt l 3; faults = valueAt l 4; cap = valueAt l 5 }
-
--- "gate,KIND,A,B"
-unfoldable pub isGate : List ℕ → Bool
-isGate l = isLine l gateWord 2 4 && isKind (fieldOf l 1)
-
--- "A is 1 to 56; B is 1 to 56, and 0 for `not`"
-unfoldable pub secondFits : Kind → ℕ → Bool
-secondFits And b = inRange b 1 56
-secondFits Or b = inRange b 1 56
-secondFits Nand b = inRange b 1 56
-secondFits Nor b = inRange b 1 56
-secondFits Xor b = inRange b 1 56
-secondFits Xnor b = inRange b 1 56
-secondFits Not b = eqb b 0
-
-unfoldable pub gateFits : List ℕ → Bool
-gateFits l = fits l 2 1 56 && secondFits (kindOf (fieldOf l 1)) (valueAt l 3)
-
--- "Each of A and B is below the gate's own line."
-unfoldable pub readsBelow : ℕ → List ℕ → Bool
-readsBelow own l = ltb (valueAt l 2) own && ltb (valueAt l 3) own
-
-unfoldable pub gateRefusal : ℕ → List ℕ → ℕ
-gateRefusal own l = unless (isGate l) 2 (unless (gateFits l) 3 (unless (readsBelow own l) 4 0))
-
-unfoldable pub gateOf : List ℕ → Gate
-gateOf l = record { kind = kindOf (fieldOf l 1); a = valueAt l 2; b = valueAt l 3 }
 
 -- "`output,LINE,WEIGHT`: LINE 1 to 56, WEIGHT 1 to 15"
 unfoldable pub isOutput : List ℕ → Bool
@@ -152,9 +118,6 @@ faultLineOf l = cond (namesBridge l) (bridgeOf l) (faultOf l)
 -- The tests of a line with their numbers, in no order that matters: the number of a line is the least of one that fails (proofs/LineNumbers).
 abbrev pub headTests : List ℕ → List (ℕ × Bool)
 headTests l = (2, isHead l) ∷ (3, headFits l) ∷ []
-
-abbrev pub gateTests : ℕ → List ℕ → List (ℕ × Bool)
-gateTests own l = (2, isGate l) ∷ (3, gateFits l) ∷ (4, readsBelow own l) ∷ []
 
 abbrev pub outputTests : ℕ → List ℕ → List (ℕ × Bool)
 outputTests top l = (2, isOutput l) ∷ (3, outputFits l) ∷ (5, leb (valueAt l 1) top) ∷ []

@@ -1,20 +1,13 @@
-// What one line of the circuit text says, with the number by which it is refused, or 0. A table's fault lines are read here too.
+// What one line of the circuit text says, with the number by which it is refused, or 0: the head, an output, a fault. A table's fault lines are read here too, and a
+// gate's line in a crate of its own.
 //
 // A line's numbers are read once, all its tests are made on them, and the first that fails gives the number. What a line says counts only where
 // all pass.
 use fields::number_unless;
-use kinds::Kind;
 ghost use mathlib.Core.Path.{_≡_};
 ghost use Prim.Native.Nat.{suc, _≤_};
 ghost use Rattle.fields.specs.Fields.{valueAt};
-ghost use Rattle.statements.specs.Lines.{headRefusal, headOf, secondFits, gateRefusal, gateOf, outputRefusal, outputOf, isFault, pairInRange, faultRefusal, faultOf, bridgeRefusal, bridgeOf, faultLineRefusal, faultLineOf};
-
-// A gate and the lines that it reads; `b` is 0 for `not`.
-pub struct Gate {
-    pub kind: Kind,
-    pub a: u16,
-    pub b: u16,
-}
+ghost use Rattle.statements.specs.Lines.{headRefusal, headOf, outputRefusal, outputOf, isFault, pairInRange, faultRefusal, faultOf, bridgeRefusal, bridgeOf, faultLineRefusal, faultLineOf};
 
 // The weight is kept in a signed type, since fixtures may come to subtract outputs.
 pub struct Output {
@@ -56,11 +49,6 @@ pub struct HeadLine {
     pub head: Head,
 }
 
-pub struct GateLine {
-    pub number: u32,
-    pub gate: Gate,
-}
-
 pub struct OutputLine {
     pub number: u32,
     pub output: Output,
@@ -100,31 +88,6 @@ pub fn head_line(line: &[u8]) -> HeadLine
             faults: q as usize,
             cap: k as usize,
         },
-    }
-}
-
-fn second_in_range(kind: Kind, b: u16) -> bool
-    ensures { λ r. ⌜ r ≡ secondFits kind b ⌝ }
-{
-    match kind {
-        Kind::Not => b == 0,
-        _ => fields::in_range(b, 1, 56),
-    }
-}
-
-// The line of the gate that drives line `own`.
-pub fn gate_line(own: usize, line: &[u8]) -> GateLine
-    ensures { λ r. ⌜ (r .number ≡ gateRefusal own (now (line .entry))) × (r .gate ≡ gateOf (now (line .entry))) ⌝ }
-{
-    let kind = kinds::kind_of(text::field(line, 1));
-    let a = fields::value_at(line, 2);
-    let b = fields::value_at(line, 3);
-    let formed = fields::is_line(line, b"gate", 2, 4) & kinds::is_kind(text::field(line, 1));
-    let fit = fields::in_range(a, 1, 56) & second_in_range(kind, b);
-    let below = ((a as usize) < own) & ((b as usize) < own);
-    GateLine {
-        number: number_unless(formed, 2, number_unless(fit, 3, number_unless(below, 4, 0))),
-        gate: Gate { kind, a, b },
     }
 }
 

@@ -14,11 +14,10 @@ use Rattle.integer.specs.ListTests.{Below}
 use Rattle.integer.proofs.Bools.{both, either}
 use Rattle.text.specs.Text.{indexOf}
 use Rattle.writing.specs.Writing.{Small}
-use Rattle.fields.specs.Fields.{fits, valueAt}
+use Rattle.fields.specs.Fields.{fits, valueAt, lineFrom}
 use Rattle.fields.proofs.JoinedLines.{line-form}
 use Rattle.fields.proofs.PlainLines.{plain-value}
-use Rattle.statements.specs.LineForms.{lineFrom}
-use Rattle.statements.proofs.FormsMeant.{both-mean, range-means}
+use Rattle.fields.proofs.TestsMean.{both-mean, range-means}
 use Rattle.tables.specs.TableLines.{tableWord, isTableHead, tableHeadFits, zeroMark, oneMark, freeMark, isMark, doubledMark, allMarks, marksOf}
 use Rattle.tables.specs.TableForms.{TableHeadForm, markFor, MarkForm}
 use Rattle.tables.proofs.TableAcceptance.{marks-below}

@@ -17,11 +17,10 @@ use Rattle.text.specs.Text.{lineEnd, indexOf}
 use Rattle.writing.specs.Writing.{Small, decimalTo, decimalOf, integerOf, gather, numberField, numbersOf, lineOf}
 use Rattle.writing.proofs.LineFields.{Lacks, AtMost, most-small, line-longest, numbers-cons}
 use Rattle.writing.proofs.Writings.{line-long, natural-length}
-use Rattle.fields.specs.Fields.{valueAt, isLine, unless}
+use Rattle.fields.specs.Fields.{valueAt, isLine, unless, lineFrom}
 use Rattle.fields.proofs.Chains.{unless-passed}
 use Rattle.fields.proofs.JoinedLines.{line-ended}
 use Rattle.fields.proofs.PlainLines.{plain-value}
-use Rattle.statements.specs.LineForms.{lineFrom}
 use Rattle.statements.specs.Lines.{faultWord, faultRefusal, faultOf, faultLineRefusal, faultLineOf}
 use Rattle.statements.specs.declared.Fault.{Fault}
 use Rattle.statements.specs.declared.Pair.{Pair}

@@ -8,7 +8,7 @@ use mathlib.Core.Path.{_≡_}
 use lib.ListN.{length}
 use Rattle.integer.specs.ListTests.{Below}
 use Rattle.writing.specs.Writing.{Small}
-use Rattle.statements.specs.LineForms.{lineFrom}
+use Rattle.fields.specs.Fields.{lineFrom}
 use Rattle.tables.specs.TableLines.{tableWord, isTableHead, tableHeadFits, zeroMark, oneMark, freeMark, allMarks, marksOf}
 
 -- "`table,N,Q,K`"

@@ -1,7 +1,7 @@
 //! Both implementations side by side on texts: each call is compared, and what
 //! came is counted.
 
-use crate::calls::{self, library_circuit, library_plan, refused};
+use crate::calls::{self, assert_refused, library_circuit, library_plan, refused};
 use crate::lent::{surround, Shown};
 use crate::library::{self, Signature};
 use crate::outcomes::Outcomes;
@@ -65,6 +65,22 @@ impl Both {
         calls::reading(&mut self.random, text, mask, values);
         calls::pair(&mut self.random, text, fault, mask, values);
         found
+    }
+
+    /// What every call refuses the text by, but that readings take no tables;
+    /// (0, 0) where it is accepted.
+    pub fn expect(&mut self, text: &[u8], due: (u32, usize)) {
+        let found = self.every_call(text, 0, 256);
+        assert_eq!(found, due, "{}", Shown(text));
+        if due.0 != 0 {
+            assert_refused(text, due);
+        }
+    }
+
+    /// The same of the text with its line `place` replaced.
+    pub fn expect_line(&mut self, text: &str, place: usize, line: &str, number: u32) {
+        let due = (number, if number == 0 { 0 } else { place });
+        self.expect(&with_line(text, place, line), due);
     }
 
     /// The circuit, the plan and the report call on a text that is refused at a
@@ -363,12 +379,17 @@ pub fn with_every_byte(text: &[u8], mut call: impl FnMut(&[u8])) {
 pub fn badly_written(line: &str) -> Vec<String> {
     let (word, _) = line.split_once(',').expect("a comma");
     let (start, _) = line.rsplit_once(',').expect("a comma");
+    // A gate but `not` may have one or two fields more.
+    let more = match word == "gate" && !line.starts_with("gate,not,") {
+        true => ",1,1,1",
+        false => ",1",
+    };
     let mut lines = vec![
         String::new(),
         word.to_string(),
         format!("{line},"),
         format!(",{line}"),
-        format!("{line},1"),
+        format!("{line}{more}"),
         format!("{line} "),
         format!(" {line}"),
         format!("{line}\r"),

@@ -190,7 +190,7 @@ mod tests {
     use second::circuits::{largest_report, worst_search, Draft, Sizes, Sketch};
     use second::random::Random;
     use second::reading::Reading;
-    use second::{bridge_texts, plan, reading, report, table_texts, walsh};
+    use second::{bridge_texts, plan, reading, report, table_texts, walsh, wide_texts};
 
     #[test]
     fn equals_the_direct_sums() {
@@ -220,12 +220,13 @@ mod tests {
     fn circuits_and_tables_equal_the_direct_sums() {
         let mut random = Random::new(7);
         for round in 0..200 {
-            let draft = match round % 4 {
+            let draft = match round % 5 {
                 0 => {
                     let sizes = Sizes::draw(&mut random);
                     Draft::draw(&mut random, sizes)
                 }
-                1 => bridge_texts::draw_changing(&mut random, 2 + round / 4 % 7),
+                1 => bridge_texts::draw_changing(&mut random, 2 + round / 5 % 7),
+                2 => wide_texts::draw_changing(&mut random, 1 + round / 5 % 8),
                 _ => table_texts::draw(&mut random, 1 + round / 2 % 8),
             };
             let (mut text, sizes) = (draft.text(), draft.sizes);
@@ -251,9 +252,10 @@ mod tests {
         for round in 0..1200 {
             let inputs = 1 + round % 7;
             let cap = random.pick(&[1, 2, 3, 4, 4, 4]);
-            let draft = match round % 4 {
+            let draft = match round % 5 {
                 0 => table_texts::draw_blocks(&mut random, inputs).with_cap(cap),
                 1 => bridge_texts::draw_changing(&mut random, inputs).with_cap(cap),
+                2 => wide_texts::draw_changing(&mut random, inputs).with_cap(cap),
                 _ => Sketch::draw(&mut random, inputs).draft(cap),
             };
             let draft = match draft.without_silent() {
@@ -294,9 +296,13 @@ mod tests {
     fn readings_equal_the_whole_numbers() {
         let mut random = Random::new(11);
         let mut outcomes = Outcomes::default();
-        for _ in 0..400 {
+        for round in 0..400 {
             let sizes = Sizes::draw(&mut random);
-            let mut text = Draft::draw(&mut random, sizes).text();
+            let draft = match round % 2 {
+                0 => Draft::draw(&mut random, sizes),
+                _ => wide_texts::draw(&mut random, sizes),
+            };
+            let mut text = draft.text();
             if random.once_in(10) {
                 text.pop();
             }

@@ -4,9 +4,7 @@
 //! coefficients is in walsh.rs, readings and pairs are in reading.rs.
 
 use differential::both::{badly_written, with_every_byte, Both};
-use differential::calls::{
-    assert_refused, library_circuit, library_plan, library_report, of_labels, refused,
-};
+use differential::calls::{library_circuit, library_plan, library_report, of_labels, refused};
 use differential::lent::Shown;
 use differential::library;
 use differential::outcomes::Outcomes;
@@ -42,22 +40,6 @@ fn draw(random: &mut Random, round: usize, inputs: usize) -> Draft {
 /// The spectrum of these rows.
 fn spectrum_of(rows: &[i32]) -> Vec<i32> {
     walsh::spectrum(rows, rows.len()).expect("rows in range")
-}
-
-/// Asserts what every call refuses the text by, but that readings take no
-/// tables; (0, 0) where it is accepted.
-fn expect(both: &mut Both, text: &[u8], due: (u32, usize)) {
-    let found = both.every_call(text, 0, 256);
-    assert_eq!(found, due, "{}", Shown(text));
-    if due.0 != 0 {
-        assert_refused(text, due);
-    }
-}
-
-/// The text with its line `place` replaced.
-fn expect_line(both: &mut Both, text: &str, place: usize, line: &str, number: u32) {
-    let due = (number, if number == 0 { 0 } else { place });
-    expect(both, &with_line(text, place, line), due);
 }
 
 // Without the second implementation.
@@ -462,7 +444,7 @@ fn each_sentence_on_the_line() {
     let texts = [(LISTING_WITH_A_BRIDGE, 7, 3), (BRIDGED_TABLE, 3, 4)];
     for (text, first_fault, inputs) in texts {
         for place in first_fault..=text.lines().count() {
-            let mut line = |line: &str, number| expect_line(&mut both, text, place, line, number);
+            let mut line = |line: &str, number| both.expect_line(text, place, line, number);
             for (bad, number) in [
                 ("bridge,1,2", 0),
                 ("bridge,2,3", 0),
@@ -554,38 +536,26 @@ fn each_sentence_on_the_line() {
     // In the place of another line it is a wrong word.
     for (text, places) in [(LISTING_WITH_A_BRIDGE, 1..=6), (BRIDGED_TABLE, 1..=2)] {
         for place in places {
-            expect_line(&mut both, text, place, "bridge,1,2", 2);
+            both.expect_line(text, place, "bridge,1,2", 2);
         }
     }
     // One fault too few, one too many.
-    expect(
-        &mut both,
+    both.expect(
         &with_line(LISTING_WITH_A_BRIDGE, 1, "circuit,3,4,1,3,2"),
         (2, 9),
     );
-    expect(
-        &mut both,
+    both.expect(
         &with_line(LISTING_WITH_A_BRIDGE, 1, "circuit,3,4,1,1,2"),
         (7, 8),
     );
-    expect(
-        &mut both,
-        &with_line(BRIDGED_TABLE, 1, "table,4,2,2"),
-        (7, 5),
-    );
-    expect(
-        &mut both,
-        &with_line(BRIDGED_TABLE, 1, "table,4,4,2"),
-        (2, 6),
-    );
+    both.expect(&with_line(BRIDGED_TABLE, 1, "table,4,2,2"), (7, 5));
+    both.expect(&with_line(BRIDGED_TABLE, 1, "table,4,4,2"), (2, 6));
     // With fewer inputs line 2 of the circuit drives line 3.
-    expect(
-        &mut both,
+    both.expect(
         b"circuit,2,1,1,1,1\ngate,or,1,2\noutput,3,1\nbridge,2,3\n",
         (19, 4),
     );
-    expect(
-        &mut both,
+    both.expect(
         b"circuit,3,1,1,1,1\ngate,or,1,2\noutput,4,1\nbridge,2,3\n",
         (0, 0),
     );
@@ -670,7 +640,7 @@ fn two_refusals_in_one_line() {
     for (text, places) in [(LISTING_WITH_A_BRIDGE, 7..=8), (BRIDGED_TABLE, 3..=5)] {
         for place in places {
             for (line, number) in BAD_FAULT_LINES {
-                expect_line(&mut both, text, place, line, number);
+                both.expect_line(text, place, line, number);
             }
         }
     }
@@ -681,8 +651,12 @@ fn two_refusals_in_one_line() {
 #[test]
 fn two_refusals_in_two_lines() {
     let mut both = Both::new(SEED + 33);
-    both.two_refusals(LISTING_WITH_A_BRIDGE, bad_lines_of_the_circuit, expect);
-    both.two_refusals(BRIDGED_TABLE, bad_lines_of_the_table, expect);
+    both.two_refusals(
+        LISTING_WITH_A_BRIDGE,
+        bad_lines_of_the_circuit,
+        Both::expect,
+    );
+    both.two_refusals(BRIDGED_TABLE, bad_lines_of_the_table, Both::expect);
     both.outcomes.assert_seen(&[
         (1, 300),
         (2, 4000),
@@ -712,7 +686,7 @@ fn a_refused_bridge_leaves_what_is_lent() {
         let text = draft.with_faults(&faults, 1).text();
         let place = draft.lines.len() - faults.len() + at + 1;
         both.refused_with_all_kept(&text, faults.len() as u32 + 1, (19, place));
-        expect(&mut both, &text, (19, place));
+        both.expect(&text, (19, place));
     }
     both.outcomes.assert_seen(&[(19, 1500)]);
 }
@@ -736,7 +710,7 @@ fn lengths_around_the_limit() {
                     0..=TEXT_LIMIT => refusal,
                     _ => (1, 0),
                 };
-                expect(&mut both, &text, due);
+                both.expect(&text, due);
             }
         }
     }

@@ -477,6 +477,9 @@ fn ranges_at_their_ends() {
         let below = number < 6;
         expect_line(&mut both, 4, &format!("gate,or,{number},1"), due(below, 4));
         expect_line(&mut both, 4, &format!("gate,or,1,{number}"), due(below, 4));
+        for wide in ["gate,or,1,5", "gate,or,1,5,1"] {
+            expect_line(&mut both, 4, &format!("{wide},{number}"), due(below, 4));
+        }
         expect_line(&mut both, 4, &format!("gate,not,{number},0"), due(below, 4));
         let not = if number == 0 { 0 } else { 3 };
         expect_line(&mut both, 4, &format!("gate,not,1,{number}"), not);
@@ -566,11 +569,23 @@ fn each_sentence_on_the_text() {
         expect_line(&mut both, 5, &format!("gate,{kind},5,6"), 0);
         expect_line(&mut both, 5, &format!("gate,{kind},5,0"), 3);
         expect_line(&mut both, 5, &format!("gate,{kind},5,7"), 4);
+        // A field more, and another; then there are too many.
+        let mut line = format!("gate,{kind},5,6");
+        for (field, number) in [(4, 0), (1, 0), (2, 2), (3, 2)] {
+            line += &format!(",{field}");
+            expect_line(&mut both, 5, &line, number);
+        }
+        expect_line(&mut both, 5, &format!("gate,{kind},5,6,0"), 3);
+        expect_line(&mut both, 5, &format!("gate,{kind},5,6,7"), 4);
+        expect_line(&mut both, 5, &format!("gate,{kind},5,6,4,57"), 3);
+        expect_line(&mut both, 5, &format!("gate,{kind},5,6,4,7"), 4);
     }
     expect_line(&mut both, 5, "gate,not,6,0", 0);
     expect_line(&mut both, 5, "gate,not,7,0", 4);
     for b in [1, 6, 7, 56, 57, 9999] {
         expect_line(&mut both, 5, &format!("gate,not,6,{b}"), 3);
+        expect_line(&mut both, 5, &format!("gate,not,6,0,{b}"), 2);
+        expect_line(&mut both, 5, &format!("gate,not,6,0,0,{b}"), 2);
     }
     for kind in [
         "", "an", "andd", "AND", "And", "no", "nott", "nan", "xorr", "nxor", "buf", "gate", "0",
@@ -623,17 +638,26 @@ fn bad_lines(place: usize) -> &'static [(&'static str, u32)] {
         ],
         2..=5 => &[
             ("", 2),
-            ("gate,and,1,2,3", 2),
+            ("gate,and,1,2,3,1,2", 2),
+            ("gate,not,1,0,2", 2),
+            ("gate,not,7,57,0", 2),
             ("gate,buf,57,7", 2),
             ("gate,and,57,x", 2),
             ("gate,and,7,01", 2),
             ("gate,and,0,", 2),
+            ("gate,and,1,2,03", 2),
+            ("gate,and,1,57,7,", 2),
             ("gate,and,57,7", 3),
             ("gate,and,7,57", 3),
             ("gate,and,7,0", 3),
             ("gate,not,7,7", 3),
             ("gate,not,1,1", 3),
+            ("gate,and,1,2,0", 3),
+            ("gate,and,7,57,1", 3),
+            ("gate,and,7,1,2,57", 3),
             ("gate,and,7,1", 4),
+            ("gate,and,1,2,7", 4),
+            ("gate,and,1,2,3,56", 4),
             ("gate,or,1,56", 4),
             ("gate,not,7,0", 4),
         ],

@@ -16,6 +16,7 @@ use second::devices;
 use second::lines::TEXT_LIMIT;
 use second::plan::{Spectra, CAP_LIMIT, WORKING_NUMBERS};
 use second::table_texts::draw_changing;
+use second::wide_texts;
 
 const SEED: u64 = 0x504c_414e_5300_0000;
 
@@ -372,6 +373,15 @@ fn no_subset_goes_before_under_bridges() {
 }
 
 #[test]
+fn no_subset_goes_before_with_wide_gates() {
+    let both = assert_no_subset_goes_before(25, |both, _, inputs| {
+        wide_texts::draw_changing(&mut both.random, inputs)
+    });
+    both.outcomes.assert_seen(&[(0, 400), (14, 20)]);
+    both.assert_sizes([200, 50, 10, 1]);
+}
+
+#[test]
 fn labels_are_in_order_and_cover_each_fault() {
     let mut both = Both::new(SEED + 21);
     for round in 0..1500 {
@@ -512,6 +522,9 @@ fn texts_by_outcome() -> Vec<(Vec<u8>, u32)> {
     for (place, line, number) in [
         (1, "circuit,9,4,1,2,2", 3),
         (3, "gate,and,3,5", 4),
+        (4, "gate,not,4,0,0", 2),
+        (5, "gate,or,1,5,0", 3),
+        (5, "gate,or,1,2,6,7", 4),
         (6, "output,8,1", 5),
         (7, "fault,2,0,1,0", 6),
     ] {
@@ -707,6 +720,19 @@ fn reports_under_bridges_agree_with_the_plan_and_the_circuit_call() {
     let mut both = Both::new(SEED + 44);
     let later = assert_reports_agree(&mut both, |both, inputs| {
         bridge_texts::draw_changing(&mut both.random, inputs).with_cap(CAP_LIMIT)
+    });
+    both.outcomes.assert_seen(&[(0, 400)]);
+    assert!(
+        later > 300,
+        "faults not covered by the first label: {later}"
+    );
+}
+
+#[test]
+fn reports_with_wide_gates_agree_with_the_plan_and_the_circuit_call() {
+    let mut both = Both::new(SEED + 45);
+    let later = assert_reports_agree(&mut both, |both, inputs| {
+        wide_texts::draw_changing(&mut both.random, inputs).with_cap(CAP_LIMIT)
     });
     both.outcomes.assert_seen(&[(0, 400)]);
     assert!(

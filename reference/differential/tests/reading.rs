@@ -17,6 +17,7 @@ use second::netlist;
 use second::random::Random;
 use second::reading::quotient;
 use second::walsh::bridged_rows;
+use second::wide_texts::widened;
 use std::collections::BTreeMap;
 
 const SEED: u64 = 0x5245_4144_494e_4700;
@@ -757,7 +758,10 @@ fn refused_texts() -> Vec<(Vec<u8>, u32, usize)> {
         (2, "gate,buf,2,0", 2),
         (2, "gate,not,2,1", 3),
         (3, "gate,and,3,5", 4),
+        (4, "gate,not,4,0,0", 2),
         (5, "gate,or,5,57", 3),
+        (5, "gate,or,1,5,0", 3),
+        (5, "gate,or,1,2,6,7", 4),
         (6, "output,8,1", 5),
         (6, "output,7,16", 3),
         (7, "fault,2,0,1,0", 6),
@@ -944,6 +948,31 @@ fn circuits_of_every_size_with_bridges() {
     }
     both.outcomes.assert_seen(&[(0, 5000)]);
     both.assert_signs([500, 1000, 500]);
+    both.assert_fixed(8, 30);
+}
+
+/// Gates of every width, with bridges and without.
+#[test]
+fn circuits_with_wide_gates() {
+    let mut both = Both::new(44);
+    for round in 0..90 {
+        let inputs = 1 + round % 4;
+        let drawn = both.small(inputs, 1 + round % 7);
+        let draft = widened(&mut both.random, &drawn);
+        both.all(&draft, &fixtures(inputs));
+    }
+    for round in 0..200 {
+        let inputs = 2 + round % 7;
+        let drawn = Sizes::draw(&mut both.random);
+        let drawn = both.draft(Sizes { inputs, ..drawn });
+        let wide = widened(&mut both.random, &drawn);
+        let draft = with_bridges(&mut both.random, &wide);
+        let some = [0; 2].map(|_| both.fixture(inputs));
+        both.all(&draft, &some);
+    }
+    both.outcomes.assert_seen(&[(0, 10_000)]);
+    both.assert_kinds([20, 40, 1500]);
+    both.assert_signs([1000, 2000, 1000]);
     both.assert_fixed(8, 30);
 }
 

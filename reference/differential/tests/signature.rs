@@ -14,6 +14,9 @@ use second::report::{self, REPORT_ROOM};
 use second::table_texts::{
     draw, draw_changing, largest, ANOTHER_MARK, MARK_DAMAGES, SHORT_MARKS, SILENT_INPUT, SMALL,
 };
+use second::wide_texts::{
+    draw_changing as draw_wide, largest as longest, AND_OF_THREE, GATE_DAMAGES,
+};
 use std::fs::File;
 use std::io::{ErrorKind, Write};
 use std::os::fd::OwnedFd;
@@ -129,6 +132,22 @@ fn texts_with_bridges() {
         let draft = draw_bridged(&mut random, 2 + round % 5);
         assert_reports_at_once("drawn", &draft.text());
         let damage = &BRIDGE_DAMAGES[round % BRIDGE_DAMAGES.len()];
+        let text = (damage.apply)(&mut random, &draft);
+        assert_reports_at_once(damage.name, &text);
+    }
+}
+
+#[test]
+fn circuits_of_wide_gates() {
+    let due = "plan,1\nlabel,0,1\nfault,1,0,0\nfault,2,0,8\n";
+    let written = run(&[AND_OF_THREE.as_bytes()], Duration::ZERO);
+    assert_eq!(String::from_utf8_lossy(&written), due);
+    let mut random = Random::new(SEED + 3);
+    assert_reports_at_once("longest", &longest(&mut random).text());
+    for round in 0..54 {
+        let draft = draw_wide(&mut random, 1 + round % 6);
+        assert_reports_at_once("drawn", &draft.text());
+        let damage = &GATE_DAMAGES[round % GATE_DAMAGES.len()];
         let text = (damage.apply)(&mut random, &draft);
         assert_reports_at_once(damage.name, &text);
     }
@@ -293,7 +312,9 @@ fn usual_causes_of_refusals() {
         ("M too large", with(1, "circuit,3,4,2,2,2"), "2,7"),
         ("no such kind", with(2, "gate,inv,2,0"), "2,2"),
         ("not of one field", with(2, "gate,not,2"), "2,2"),
-        ("three inputs", with(3, "gate,and,1,2,3"), "2,3"),
+        ("five inputs", with(5, "gate,or,1,2,3,5,6"), "2,5"),
+        ("not of three fields", with(2, "gate,not,2,0,0"), "2,2"),
+        ("no fourth field", with(5, "gate,or,1,5,"), "2,5"),
         ("no weight", with(6, "output,7"), "2,6"),
         ("weight of five digits", with(6, "output,7,10000"), "2,6"),
         ("zero before a weight", with(6, "output,7,01"), "2,6"),
@@ -312,6 +333,7 @@ fn usual_causes_of_refusals() {
         ("K of 0", with(1, "circuit,3,4,1,2,0"), "3,1"),
         ("not of two", with(2, "gate,not,2,2"), "3,2"),
         ("and of one", with(3, "gate,and,1,0"), "3,3"),
+        ("filled up with 0", with(3, "gate,and,1,2,0,0"), "3,3"),
         ("LINE of 0", with(6, "output,0,1"), "3,6"),
         ("LINE of 57", with(6, "output,57,1"), "3,6"),
         ("weight of 0", with(6, "output,7,0"), "3,6"),
@@ -319,6 +341,8 @@ fn usual_causes_of_refusals() {
         ("VALUE of 2", with(7, "fault,2,2"), "3,7"),
         ("its own line", with(3, "gate,and,1,5"), "4,3"),
         ("a later line", with(3, "gate,and,1,6"), "4,3"),
+        ("a third input ahead", with(3, "gate,and,1,2,5"), "4,3"),
+        ("a fourth input ahead", with(3, "gate,and,1,2,3,7"), "4,3"),
         ("no such line", with(6, "output,8,1"), "5,6"),
         ("pairs not sorted", with(8, "fault,2,1,1,0"), "6,8"),
         ("a line twice", with(8, "fault,2,1,2,0"), "6,8"),

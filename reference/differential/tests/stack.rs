@@ -5,8 +5,10 @@ use differential::library;
 use second::bridge_texts::every_bridge;
 use second::circuits::{largest_report, worst_search};
 use second::plan::WORKING_NUMBERS;
+use second::random::Random;
 use second::report::REPORT_ROOM;
 use second::table_texts::largest;
+use second::wide_texts::{self, with_repeats};
 use std::thread;
 
 const STACK: usize = 64 * 1024;
@@ -65,6 +67,26 @@ fn calls_on_circuits_within_64_kib() {
     let text = largest_report().text();
     assert_reported(text.clone());
     assert_eq!(planned(worst_search().text()), 14);
+    let lent = text.clone();
+    assert_eq!(number(move || library::reading(&lent, 0, 0).number), 0);
+    assert_eq!(number(move || library::pair(&text, 32, 0, 0).number), 0);
+}
+
+/// The same circuits of gates of four inputs, and the longest text.
+#[test]
+fn calls_on_wide_gates_within_64_kib() {
+    let mut random = Random::new(64);
+    assert_reported(with_repeats(&mut random, &largest_report()).text());
+    let worst = with_repeats(&mut random, &worst_search());
+    assert_eq!(planned(worst.text()), 14);
+    let draft = wide_texts::largest(&mut random);
+    let planned_draft = draft.without_silent().expect("a fault that changes rows");
+    let number_of_plan = planned(planned_draft.text());
+    assert!([0, 14].contains(&number_of_plan), "{number_of_plan}");
+    let text = draft.text();
+    let (lent, mut out) = (text.clone(), vec![0; 256]);
+    let circuit = move || library::circuit(&lent, 32, &mut out).number;
+    assert_eq!(number(circuit), 0);
     let lent = text.clone();
     assert_eq!(number(move || library::reading(&lent, 0, 0).number), 0);
     assert_eq!(number(move || library::pair(&text, 32, 0, 0).number), 0);

@@ -8,9 +8,12 @@ use second::bridge_texts::{BRIDGED_TABLE, LISTING_WITH_A_BRIDGE};
 use second::circuits::LISTING;
 use second::devices::{self, Device};
 use second::lines::TEXT_LIMIT;
+use second::netlist;
 use second::plan::CAP_LIMIT;
 use second::tables::is_table;
 use second::vectors::{cases, path, stored, Case};
+use second::walsh;
+use second::wide_texts::{one_gate, rows_of_gate, AND_OF_THREE, PARITY_OF_FOUR, TRUTH_VALUES};
 use std::collections::BTreeSet;
 use std::io::Write;
 use std::path::PathBuf;
@@ -29,7 +32,7 @@ fn stored_cases_are_those_of_today() {
         file == stored(),
         "run `cargo run --release --offline --locked --bin vectors`"
     );
-    assert!(file.len() < 1_100_000, "{} bytes", file.len());
+    assert!(file.len() < 1_200_000, "{} bytes", file.len());
     let said = std::fs::read_to_string(path().with_file_name("stdout"));
     let due = format!("{} cases, 0 differ\n", CASES.len());
     assert_eq!(said.expect("what is said of them"), due);
@@ -320,7 +323,8 @@ fn has_a_bridge(text: &[u8]) -> bool {
     lines.any(|line| line.starts_with(b"bridge,"))
 }
 
-/// Those with bridges come after all others, so that these stay as they were.
+/// Those with bridges come after all others but those with wide gates, so that the
+/// others stay as they were.
 #[test]
 fn stored_cases_with_bridges_come_last_and_are_of_every_kind() {
     let with_bridge = |case: &Case| case.call == "bridged" || has_a_bridge(&case.text);
@@ -356,6 +360,68 @@ fn stored_cases_with_bridges_come_last_and_are_of_every_kind() {
     ]);
     let sizes = reports.sizes;
     assert!(sizes[1..].iter().all(|&count| count >= 3), "{sizes:?}");
+}
+
+/// A circuit that is accepted and has a gate of three or four inputs.
+fn has_a_wide_gate(text: &[u8]) -> bool {
+    let netlist = netlist::parse(text);
+    netlist.is_ok_and(|netlist| netlist.gates.iter().any(|gate| gate.read > 2))
+}
+
+/// Those with wide gates come last, and the others stay as they were.
+#[test]
+fn stored_cases_with_wide_gates_come_last_and_are_of_every_kind() {
+    let first = CASES.iter().position(|case| has_a_wide_gate(&case.text));
+    assert_eq!(first, Some(2_470));
+    for text in [AND_OF_THREE, PARITY_OF_FOUR] {
+        for call in ["circuit", "plan", "report", "reading", "pair"] {
+            let stored = |case: &&Case| case.call == call && case.text == text.as_bytes();
+            let count = CASES.iter().filter(stored).count();
+            assert!(count > 0, "{call} of {text}");
+        }
+    }
+    // The longest text.
+    let longest = |case: &&Case| case.text.len() == 1_792 && has_a_wide_gate(&case.text);
+    assert!(CASES.iter().filter(longest).count() >= 5);
+    seen("circuit", has_a_wide_gate).assert_seen(&[(0, 50), (8, 4), (12, 4)]);
+    seen("reading", has_a_wide_gate).assert_seen(&[(0, 20)]);
+    seen("pair", has_a_wide_gate).assert_seen(&[(0, 8), (12, 4)]);
+    seen("plan", has_a_wide_gate).assert_seen(&[(0, 3), (13, 1)]);
+    let mut reports = Reports::default();
+    for case in CASES[2_470..].iter().filter(|case| case.call == "report") {
+        reports.note(case);
+    }
+    let refused = [(2, 20), (3, 15), (4, 15), (5, 1), (6, 1), (7, 1)];
+    let planned = [(0, 25), (13, 5), (14, 2)];
+    let least = [&refused[..], &planned].concat();
+    reports.outcomes.assert_seen(&least);
+    let sizes = reports.sizes;
+    assert!(sizes[1..].iter().all(|&count| count >= 1), "{sizes:?}");
+}
+
+/// All 170: every kind and width over as many inputs, each a circuit of its own.
+#[test]
+fn stored_circuits_show_every_truth_value() {
+    let mut values = 0;
+    let not = one_gate(1, "not", &[1, 0]);
+    let mut gates = vec![(not, vec![1, 0])];
+    for (kind, tables) in TRUTH_VALUES {
+        for (width, table) in (2..).zip(tables) {
+            let lines: Vec<usize> = (1..=width).collect();
+            gates.push((one_gate(width, kind, &lines), rows_of_gate(width, table)));
+        }
+    }
+    for (text, rows) in gates {
+        let spectrum = walsh::spectrum(&rows, rows.len()).expect("rows in range");
+        let spectrum: Vec<String> = spectrum.iter().map(i32::to_string).collect();
+        let due = format!("answer,0,0\nleft,{}\n", spectrum.join(","));
+        let stored =
+            |case: &&Case| case.call == "circuit" && case.text == text && case.first == [0];
+        let case = CASES.iter().find(stored).expect("a circuit of one gate");
+        assert_eq!(String::from_utf8_lossy(&case.due), due);
+        values += rows.len();
+    }
+    assert_eq!(values, 170);
 }
 
 /// Every pair of few inputs, and each pair's half not whole at some label.

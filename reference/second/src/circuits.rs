@@ -129,7 +129,7 @@ impl Draft {
                 "not" => 0,
                 _ => line_below(random, own),
             };
-            lines.push(gate_fields(kind, a, b));
+            lines.push(gate_fields(kind, &[a, b]));
         }
         let mut outputs = Vec::new();
         for _ in 0..sizes.outputs {
@@ -154,6 +154,11 @@ impl Draft {
             text += "\n";
         }
         text.into_bytes()
+    }
+
+    /// The lines of the gates.
+    pub fn gates(&self) -> &[Vec<String>] {
+        &self.lines[1..=self.sizes.gates]
     }
 
     /// The lines of the faults.
@@ -243,7 +248,7 @@ impl Draft {
     }
 
     /// The first line or input that this line of the text may not name.
-    fn bound(&self, line: usize) -> usize {
+    pub(crate) fn bound(&self, line: usize) -> usize {
         match self.lines[line][0].as_str() {
             "gate" => self.sizes.inputs + line,
             "bridge" => self.sizes.inputs + 1,
@@ -299,8 +304,10 @@ pub(crate) fn fault_fields(random: &mut Random, stuck: &[usize]) -> Vec<String> 
     fields("fault", &numbers)
 }
 
-fn gate_fields(kind: &str, a: usize, b: usize) -> Vec<String> {
-    vec!["gate".into(), kind.into(), a.to_string(), b.to_string()]
+pub(crate) fn gate_fields(kind: &str, lines: &[usize]) -> Vec<String> {
+    let mut gate = fields(kind, lines);
+    gate.insert(0, "gate".into());
+    gate
 }
 
 /// A circuit under way, for circuits whose faults have chosen labels: gates
@@ -332,7 +339,11 @@ impl Sketch {
     }
 
     pub fn gate(&mut self, kind: &str, a: usize, b: usize) -> usize {
-        self.gates.push(gate_fields(kind, a, b));
+        self.wide_gate(kind, &[a, b])
+    }
+
+    pub fn wide_gate(&mut self, kind: &str, lines: &[usize]) -> usize {
+        self.gates.push(gate_fields(kind, lines));
         self.inputs + self.gates.len()
     }
 
@@ -572,7 +583,7 @@ pub fn worst_search() -> Draft {
 }
 
 /// A line below `bound`, often one of the last, so that circuits go deep.
-fn line_below(random: &mut Random, bound: usize) -> usize {
+pub(crate) fn line_below(random: &mut Random, bound: usize) -> usize {
     match random.below(3) {
         0 => 1 + random.below(bound - 1),
         _ => bound - 1 - random.below((bound - 1).min(6)),

@@ -15,3 +15,4 @@ pub mod table_texts;
 pub mod tables;
 pub mod vectors;
 pub mod walsh;
+pub mod wide_texts;

@@ -99,7 +99,7 @@ impl Line<'_> {
         self.read(number_in)
     }
 
-    fn is_over(&self) -> bool {
+    pub(crate) fn is_over(&self) -> bool {
         self.fields.clone().next().is_none()
     }
 

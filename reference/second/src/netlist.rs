@@ -1,9 +1,11 @@
 //! The circuit text and its rows, written from the sentences of the paper and of
-//! note 8, and nothing else.
+//! notes 2 and 8, and nothing else.
 
 use crate::lines::{fault_of, Fault, Line, Reader, LINE_LIMIT};
 use crate::walsh::Refusal;
 
+/// A gate reads no more lines: "gates of up to four inputs".
+pub const WIDTH_LIMIT: usize = 4;
 /// No coefficient of a circuit is beyond it: 256 rows, 4 outputs of weight 15.
 pub const CIRCUIT_LIMIT: i32 = 15_360;
 
@@ -37,26 +39,48 @@ impl Kind {
             .map(|&(_, kind)| kind)
     }
 
-    /// "Gates have their usual truth values."
-    fn value(self, a: bool, b: bool) -> bool {
+    /// The most line fields of a gate: "two, three or four", but "`not` keeps
+    /// just A and its `0`".
+    fn most_fields(self) -> usize {
         match self {
-            Kind::And => a & b,
-            Kind::Or => a | b,
-            Kind::Nand => !(a & b),
-            Kind::Nor => !(a | b),
-            Kind::Xor => a ^ b,
-            Kind::Xnor => !(a ^ b),
-            Kind::Not => !a,
+            Kind::Not => 2,
+            _ => WIDTH_LIMIT,
+        }
+    }
+
+    /// "Gates have their usual truth values", by how many of the lines that are
+    /// read show 1: "`xor` is 1 for an odd number of ones, `xnor` its
+    /// complement". A line that is read twice counts twice.
+    fn value(self, ones: usize, read: usize) -> bool {
+        match self {
+            Kind::And => ones == read,
+            Kind::Or => ones > 0,
+            Kind::Nand => ones < read,
+            Kind::Nor => ones == 0,
+            Kind::Xor => ones % 2 == 1,
+            Kind::Xnor => ones % 2 == 0,
+            Kind::Not => ones == 0,
         }
     }
 }
 
-/// A gate reads lines `a` and `b`; `b` is 0 for `not`.
+/// A gate reads one line for `not`, else two to four, which need not differ.
+/// Past those it has 0, which is no line and shows no 1.
 #[derive(Clone, Copy, Debug, PartialEq, Eq)]
 pub struct Gate {
     pub kind: Kind,
-    pub a: usize,
-    pub b: usize,
+    pub read: usize,
+    pub lines: [usize; WIDTH_LIMIT],
+}
+
+/// What a gate shows, by how many of its lines show 1.
+type Values = [bool; WIDTH_LIMIT + 1];
+
+impl Gate {
+    /// Worked out once for all rows.
+    fn values(&self) -> Values {
+        std::array::from_fn(|ones| self.kind.value(ones, self.read))
+    }
 }
 
 #[derive(Clone, Copy, Debug, PartialEq, Eq)]
@@ -98,22 +122,27 @@ impl Held {
 }
 
 impl Line<'_> {
-    /// `gate,KIND,A,B`, the gate that drives line `own`.
+    /// `gate,KIND,A,B`, "two, three or four line fields": the gate that drives
+    /// line `own`. "Added fields have the range and the checks of B."
     fn gate(mut self, own: usize) -> Result<Gate, Refusal> {
         self.word("gate")?;
         let kind = self.read(Kind::of)?;
-        let (a, b) = (self.number()?, self.number()?);
-        self.end()?;
-        self.test(3, (1..=LINE_LIMIT).contains(&a))?;
-        self.test(
-            3,
-            match kind {
-                Kind::Not => b == 0,
-                _ => (1..=LINE_LIMIT).contains(&b),
-            },
-        )?;
-        self.test(4, a < own && b < own)?;
-        Ok(Gate { kind, a, b })
+        let mut lines = [self.number()?, self.number()?, 0, 0];
+        let mut read = 2;
+        while !self.is_over() {
+            self.test(2, read < kind.most_fields())?;
+            lines[read] = self.number()?;
+            read += 1;
+        }
+        if kind == Kind::Not {
+            self.test(3, lines[1] == 0)?;
+            read = 1;
+        }
+        for line in &lines[..read] {
+            self.test(3, (1..=LINE_LIMIT).contains(line))?;
+        }
+        self.test(4, lines.iter().all(|&line| line < own))?;
+        Ok(Gate { kind, read, lines })
     }
 
     /// `output,LINE,WEIGHT`, in a circuit of `lines` lines.
@@ -158,13 +187,14 @@ impl Netlist {
     /// 1); 12 where there is no such fault.
     pub fn rows(&self, fault: u32) -> Result<Vec<i32>, Refusal> {
         let held = Held::by(fault_of(&self.faults, fault)?);
+        let values: Vec<_> = self.gates.iter().map(Gate::values).collect();
         Ok((0..1 << self.inputs)
-            .map(|row| self.row(row, &held))
+            .map(|row| self.row(row, &held, &values))
             .collect())
     }
 
     /// "the sum of WEIGHT over outputs showing 1".
-    fn row(&self, row: usize, held: &Held) -> i32 {
+    fn row(&self, row: usize, held: &Held, values: &[Values]) -> i32 {
         let mut shown = [false; LINE_LIMIT + 1];
         for input in 1..=self.inputs {
             let applied = row & (1 << (input - 1)) != 0;
@@ -174,9 +204,9 @@ impl Netlist {
             let both = shown[first] & shown[second];
             (shown[first], shown[second]) = (both, both);
         }
-        for (gate, own) in self.gates.iter().zip(self.inputs + 1..) {
-            let computed = gate.kind.value(shown[gate.a], shown[gate.b]);
-            shown[own] = held.stuck[own].unwrap_or(computed);
+        for ((gate, values), own) in self.gates.iter().zip(values).zip(self.inputs + 1..) {
+            let ones = gate.lines.iter().filter(|&&line| shown[line]).count();
+            shown[own] = held.stuck[own].unwrap_or(values[ones]);
         }
         self.outputs
             .iter()
@@ -195,6 +225,7 @@ mod tests {
     use crate::random::Random;
     use crate::table_texts::SMALL;
     use crate::walsh::{bridged_rows, number_and_place, refuse};
+    use crate::wide_texts::{one_gate, rows_of_gate, TRUTH_VALUES};
 
     /// What the listing gives with its line `place` replaced.
     fn refused(place: usize, line: &str) -> (u32, usize) {
@@ -206,6 +237,76 @@ mod tests {
         let netlist = parse(LISTING.as_bytes()).expect("the paper's text");
         assert_eq!((netlist.inputs, netlist.cap), (3, 2));
         assert_eq!(netlist.rows(0), Ok(vec![0, 0, 0, 1, 1, 1, 0, 1]));
+    }
+
+    #[test]
+    fn truth_values_of_every_kind_and_width() {
+        let mut values = 0;
+        for (kind, tables) in TRUTH_VALUES {
+            for (width, table) in (2..=WIDTH_LIMIT).zip(tables) {
+                let lines: Vec<usize> = (1..=width).collect();
+                let netlist = parse(&one_gate(width, kind, &lines)).expect("a good text");
+                let due = rows_of_gate(width, table);
+                values += due.len();
+                assert_eq!(netlist.rows(0), Ok(due), "{kind} of {width}");
+                assert_eq!(netlist.rows(1), Ok(vec![1; 1 << width]), "{kind} stuck");
+            }
+        }
+        let not = parse(&one_gate(1, "not", &[1, 0])).expect("a good text");
+        assert_eq!(not.rows(0), Ok(vec![1, 0]));
+        assert_eq!(values + 2, 170);
+    }
+
+    #[test]
+    fn a_line_may_be_read_more_than_once() {
+        // Rows 00, 10, 01, 11 of two inputs.
+        for (kind, lines, rows) in [
+            ("and", &[1, 1, 2][..], [0, 0, 0, 1]),
+            ("and", &[2, 2, 2, 2], [0, 0, 1, 1]),
+            ("or", &[1, 2, 1, 1], [0, 1, 1, 1]),
+            ("or", &[1, 1, 1], [0, 1, 0, 1]),
+            ("nand", &[2, 1, 2], [1, 1, 1, 0]),
+            ("nand", &[1, 1, 1, 1], [1, 0, 1, 0]),
+            ("nor", &[1, 1, 2, 2], [1, 0, 0, 0]),
+            ("xor", &[1, 1, 2], [0, 0, 1, 1]),
+            ("xor", &[1, 1, 1, 2], [0, 1, 1, 0]),
+            ("xor", &[1, 1, 2, 2], [0, 0, 0, 0]),
+            ("xor", &[2, 2, 2], [0, 0, 1, 1]),
+            ("xnor", &[2, 1, 1], [1, 1, 0, 0]),
+            ("xnor", &[2, 2, 2, 2], [1, 1, 1, 1]),
+        ] {
+            let netlist = parse(&one_gate(2, kind, lines)).expect("a good text");
+            assert_eq!(netlist.rows(0), Ok(rows.to_vec()), "{kind} of {lines:?}");
+        }
+    }
+
+    #[test]
+    fn stuck_lines_show_to_wide_gates() {
+        // The complement of the majority, from three products.
+        let text = "circuit,3,4,1,4,1\ngate,and,1,2\ngate,and,1,3\ngate,and,2,3\n\
+            gate,nor,4,5,6\noutput,7,3\nfault,4,1\nfault,5,0,6,0\nfault,3,1\nfault,7,0\n";
+        let netlist = parse(text.as_bytes()).expect("a good text");
+        assert_eq!(netlist.rows(0), Ok(vec![3, 3, 3, 0, 3, 0, 0, 0]));
+        assert_eq!(netlist.rows(1), Ok(vec![0; 8]));
+        assert_eq!(netlist.rows(2), Ok(vec![3, 3, 3, 0, 3, 3, 3, 0]));
+        assert_eq!(netlist.rows(3), Ok(vec![3, 0, 0, 0, 3, 0, 0, 0]));
+        assert_eq!(netlist.rows(4), Ok(vec![0; 8]));
+    }
+
+    #[test]
+    fn bridged_inputs_show_to_wide_gates() {
+        let parity = |bits: usize| (bits.count_ones() % 2) as i32;
+        for lines in ["1,2,3,4", "4,2,1,3", "2,3,4,1"] {
+            let text = format!(
+                "circuit,4,1,1,2,1\ngate,xor,{lines}\noutput,5,1\nbridge,3,4\nbridge,1,2\n"
+            );
+            let netlist = parse(text.as_bytes()).expect("a good text");
+            // Two equal inputs cancel out, which leaves the other two.
+            for (fault, left) in [(0, 15), (1, 3), (2, 12)] {
+                let due = (0..16).map(|row| parity(row & left)).collect();
+                assert_eq!(netlist.rows(fault), Ok(due), "fault {fault}, {lines}");
+            }
+        }
     }
 
     #[test]
@@ -316,6 +417,88 @@ mod tests {
             let text = LISTING.replace("circuit,3", "circuit,4");
             let found = number_and_place(&parse(&with_line(&text, 7, line)));
             assert_eq!(found, due, "{line}");
+        }
+    }
+
+    #[test]
+    fn refusals_of_a_gate() {
+        // The first gate of three inputs drives line 4.
+        for (line, number) in [
+            ("gate,and,1,2", 0),
+            ("gate,and,1,2,3", 0),
+            ("gate,and,1,2,3,1", 0),
+            ("gate,and,3,3,3,3", 0),
+            ("gate,not,1,0", 0),
+            // Two, three or four line fields.
+            ("gate", 2),
+            ("gate,and", 2),
+            ("gate,and,1", 2),
+            ("gate,and,1,2,3,1,2", 2),
+            ("gate,and,1,2,3,1,2,3", 2),
+            ("gate,and,57,0,4,9,1", 2),
+            ("gate,not,1", 2),
+            ("gate,not,1,0,2", 2),
+            ("gate,not,1,0,0", 2),
+            ("gate,not,1,2,3", 2),
+            ("gate,not,1,0,0,0", 2),
+            ("gate,not,57,4,0,9", 2),
+            // Kinds and numbers.
+            ("gate,buf,1,2,3", 2),
+            ("gate,and3,1,2,3", 2),
+            ("gate,,1,2,3", 2),
+            ("gate,and,,2,3", 2),
+            ("gate,and,1,,3", 2),
+            ("gate,and,1,2,", 2),
+            ("gate,and,1,2,3,", 2),
+            ("gate,and,1,2,3,1,", 2),
+            ("gate,and,1,2,03", 2),
+            ("gate,and,1,2,3,00", 2),
+            ("gate,and,1,2,10000", 2),
+            ("gate,and,1,2,3,+1", 2),
+            ("gate,and,1,2, 3", 2),
+            ("gate,and,1,2,3\r", 2),
+            ("gate,and,57,2,x", 2),
+            ("gate,and,4,0,1,", 2),
+            // Ranges.
+            ("gate,not,1,2", 3),
+            ("gate,not,1,57", 3),
+            ("gate,not,1,9999", 3),
+            ("gate,not,0,0", 3),
+            ("gate,not,57,0", 3),
+            ("gate,not,4,4", 3),
+            ("gate,and,0,1,2", 3),
+            ("gate,and,1,0,2", 3),
+            ("gate,and,1,2,0", 3),
+            ("gate,and,1,2,3,0", 3),
+            ("gate,and,1,2,57", 3),
+            ("gate,and,1,2,3,57", 3),
+            ("gate,and,1,2,3,9999", 3),
+            ("gate,and,4,57,1", 3),
+            ("gate,and,4,1,0", 3),
+            ("gate,and,56,56,56,57", 3),
+            ("gate,and,57,56,56,56", 3),
+            // Its own line and later ones.
+            ("gate,not,4,0", 4),
+            ("gate,and,4,2,3", 4),
+            ("gate,and,1,4,3", 4),
+            ("gate,and,1,2,4", 4),
+            ("gate,and,1,2,3,4", 4),
+            ("gate,and,1,2,56", 4),
+            ("gate,and,1,2,3,56", 4),
+            ("gate,and,5,6,7,8", 4),
+        ] {
+            let due = (number, if number == 0 { 0 } else { 2 });
+            for (kind, _) in TRUTH_VALUES {
+                let line = line.replacen(",and", &format!(",{kind}"), 1);
+                assert_eq!(refused(2, &line), due, "{line}");
+            }
+        }
+        // Each gate has its own line.
+        for (place, own) in (2..=5).zip(4..) {
+            for (read, due) in [(own - 1, (0, 0)), (own, (4, place)), (own + 1, (4, place))] {
+                assert_eq!(refused(place, &format!("gate,xor,1,2,{read}")), due);
+                assert_eq!(refused(place, &format!("gate,or,1,1,2,{read}")), due);
+            }
         }
     }
 

@@ -14,14 +14,15 @@ mod lists;
 mod tables;
 mod texts;
 mod uses;
+mod wide;
 
 use crate::devices;
 use crate::lines;
 use crate::netlist;
-use crate::plan::{self, CAP_LIMIT, WORKING_NUMBERS};
+use crate::plan::{self, CAP_LIMIT};
 use crate::random::Random;
 use crate::reading::{self, Reading, Whole};
-use crate::report::{self, REPORT_ROOM};
+use crate::report;
 use crate::walsh::{self, number_and_place, number_of, Refusal};
 use std::path::{Path, PathBuf};
 
@@ -55,18 +56,19 @@ pub fn stored() -> Vec<u8> {
     cases().iter().flat_map(Case::bytes).collect()
 }
 
-/// All cases: the paper's examples first, those on tables and then those with
-/// bridges last, so that earlier cases stay where they were.
+/// All cases: the paper's examples first, those on tables, with bridges and with
+/// wide gates last, one after the other, so that earlier cases stay where they
+/// were.
 pub fn cases() -> Vec<Case> {
     let texts = texts::texts(&mut Random::new(SEED));
     let mut random = Random::new(SEED + 1);
     let mut cases = examples::cases();
-    let reports = texts.iter();
-    cases.extend(reports.map(|text| Case::report(text, REPORT_ROOM, WORKING_NUMBERS)));
+    cases.extend(uses::reports(&texts));
     cases.extend(lists::cases(&mut random));
     cases.extend(uses::cases(&mut random, &texts));
     cases.extend(tables::cases(&mut Random::new(SEED + 2)));
     cases.extend(bridges::cases(&mut Random::new(SEED + 3)));
+    cases.extend(wide::cases(&mut Random::new(SEED + 4)));
     cases
 }
 

@@ -14,7 +14,7 @@ circuit-rows-requires : tie.Need-circuit-rows-requires
 circuit-rows-requires c κs =
     let s = c .before .before .before in
     let u = circuit-in-use (s .args .d) (s .pre .0) (s .args .fault) (s .pre .1) (c .before .enum-told .given .1) in
-    (u .0, omega (arith, u .2, s .pre .1), s .pre .2 ∙ ap (λ (k : ℕ). 2 ^ k) (sym (u .1)))
+    (u .0, u .3, omega (arith, u .2, s .pre .1), s .pre .2 ∙ ap (λ (k : ℕ). 2 ^ k) (sym (u .1)))
 
 enum-told-2 : tie.Need-enum-told-2
 enum-told-2 c = search needs

@@ -1,14 +1,16 @@
--- Each arm computes what its kind is defined to show.
+-- Each arm computes its kind's formula.
 use borrow.Author.Needs.{needs}
-use mathlib.Core.Path.{_≡_, sym, ap}
-use mathlib.Core.Bool.{Bool, xor}
+use mathlib.Core.Path.{_≡_, sym, ap, _∙_}
+use Prim.Native.Nat.{ℕ, _%_}
+use lib.Dec.{eqb}
 use Rattle.kinds.specs.declared.Kind.{Kind}
-use Rattle.gates.specs.Gates.{gateValue}
+use Rattle.gates.specs.Gates.{gateValue, bitsOf}
+use Rattle.gates.proofs.Formulas.{formula, by-formula, case-few}
 use Rattle.gates.proofs.gate_value.Statement.{statement}
 use Rattle.gates.proofs.gate_value.Tie as tie
 
-by-kind : {k : Kind} (kind : Kind) (a b : Bool) → kind ≡ k → gateValue k a b ≡ gateValue kind a b
-by-kind kind a b e = ap (λ (k : Kind). gateValue k a b) (sym e)
+by-kind : (s : tie.Start) {k : Kind} → s .args .kind ≡ k → formula k (s .args .bits) ≡ gateValue (s .args .kind) (bitsOf (s .args .bits))
+by-kind s e = ap (λ (k : Kind). formula k (s .args .bits)) (sym e) ∙ by-formula (s .args .kind) (s .args .bits) (s .pre)
 
 enum-told : tie.Need-enum-told
 enum-told c = search needs
@@ -25,39 +27,38 @@ enum-told-4 c = search needs
 enum-told-5 : tie.Need-enum-told-5
 enum-told-5 c = search needs
 
+ones-in-requires : tie.Need-ones-in-requires
+ones-in-requires c κs = let s = c .before .before in case-few (s .args .kind) (s .args .bits) (s .pre)
+
 enum-told-6 : tie.Need-enum-told-6
 enum-told-6 c = search needs
+
+ones-in-requires-2 : tie.Need-ones-in-requires-2
+ones-in-requires-2 c κs = let s = c .before .before in case-few (s .args .kind) (s .args .bits) (s .pre)
 
 enum-told-7 : tie.Need-enum-told-7
 enum-told-7 c = search needs
 
 returns : tie.Need-returns
-unfolding gateValue
-returns c = let a = c .before .before .args in by-kind (a .kind) (a .a) (a .b) (c .enum-told .given .1)
+returns c = by-kind (c .before .before) (c .enum-told .given .1)
 
 returns-2 : tie.Need-returns-2
-unfolding gateValue
-returns-2 c = let a = c .before .before .args in by-kind (a .kind) (a .a) (a .b) (c .enum-told2 .given .1)
+returns-2 c = by-kind (c .before .before) (c .enum-told2 .given .1)
 
 returns-3 : tie.Need-returns-3
-unfolding gateValue
-returns-3 c = let a = c .before .before .args in by-kind (a .kind) (a .a) (a .b) (c .enum-told3 .given .1)
+returns-3 c = by-kind (c .before .before) (c .enum-told3 .given .1)
 
 returns-4 : tie.Need-returns-4
-unfolding gateValue
-returns-4 c = let a = c .before .before .args in by-kind (a .kind) (a .a) (a .b) (c .enum-told4 .given .1)
+returns-4 c = by-kind (c .before .before) (c .enum-told4 .given .1)
 
 returns-5 : tie.Need-returns-5
-unfolding gateValue xor
-returns-5 c = let a = c .before .before .args in by-kind (a .kind) (a .a) (a .b) (c .enum-told5 .given .1)
+returns-5 c = ap (λ (n : ℕ). eqb (n % 2) 0) (c .ones-in .ensures) ∙ by-kind (c .before .before .before) (c .before .enum-told5 .given .1)
 
 returns-6 : tie.Need-returns-6
-unfolding gateValue xor
-returns-6 c = let a = c .before .before .args in by-kind (a .kind) (a .a) (a .b) (c .enum-told6 .given .1)
+returns-6 c = ap (λ (n : ℕ). eqb (n % 2) 1) (c .ones-in2 .ensures) ∙ by-kind (c .before .before .before) (c .before .enum-told6 .given .1)
 
 returns-7 : tie.Need-returns-7
-unfolding gateValue
-returns-7 c = let a = c .before .before .args in by-kind (a .kind) (a .a) (a .b) (c .enum-told7 .given .1)
+returns-7 c = by-kind (c .before .before) (c .enum-told7 .given .1)
 
 pub gate-value-spec : {M : Type 1} → statement M
 gate-value-spec =
@@ -68,7 +69,9 @@ gate-value-spec =
     enum-told-3
     enum-told-4
     enum-told-5
+    ones-in-requires
     enum-told-6
+    ones-in-requires-2
     enum-told-7
     returns
     returns-2

@@ -8,7 +8,7 @@ use Rattle.integer.proofs.Tabs.{length-mapped}
 use Rattle.netlist.specs.Circuits.{netlistOf}
 use Rattle.simulation.specs.Rows.{gatesNext, lineValues}
 use Rattle.simulation.specs.Steps.{Columns}
-use Rattle.simulation.proofs.Columns.{linesTo, gates-next}
+use Rattle.simulation.proofs.Columns.{linesTo, gates-next, gate-is-right}
 use Rattle.simulation.proofs.gate_columns.Statement.{statement}
 use Rattle.simulation.proofs.gate_columns.Tie as tie
 
@@ -20,19 +20,13 @@ abbrev μ-loop : tie.MeasureT-loop
 
 loop-holds : tie.Need-loop-holds Inv-loop μ-loop
 unfolding gatesNext
-loop-holds c = (search needs, search (needs, length-mapped), refl, c .before .pre .3)
+loop-holds c = (search needs, search (needs, length-mapped), refl, c .before .pre .4)
 
 mul-gate : tie.Need-mul-gate Inv-loop μ-loop
 mul-gate c = search needs
 
 element-copy-out-gate : tie.Need-element-copy-out-gate Inv-loop μ-loop
 element-copy-out-gate c = search needs
-
-slot-requires : tie.Need-slot-requires Inv-loop μ-loop
-slot-requires c κs = search needs
-
-slot-requires-2 : tie.Need-slot-requires-2 Inv-loop μ-loop
-slot-requires-2 c κs = search needs
 
 add-line : tie.Need-add-line Inv-loop μ-loop
 add-line c = search needs
@@ -43,11 +37,13 @@ add-line-2 c = search needs
 through-requires : tie.Need-through-requires Inv-loop μ-loop
 through-requires c κs = search needs
 
-kind-column-requires : tie.Need-kind-column-requires Inv-loop μ-loop
-kind-column-requires c κs =
-    let l = c .before .before .before .before .before .before in
-    let p = l .before .before .pre in
-    (l .loop .inv .2 ∙ p .1, c .before .before .before .slot .ensures .1, c .before .before .slot2 .ensures .1, omega (arith, c .before .before .before .before .before .loop-test .taken, p .0 .inputs, p .0 .gates), p .2)
+gate-column-requires : tie.Need-gate-column-requires Inv-loop μ-loop
+gate-column-requires c κs =
+    let l = c .before .before .before .before in
+    let s = l .before .before in
+    let p = s .pre in
+    let more = c .before .before .before .loop-test .taken in
+    (l .loop .inv .2 ∙ p .2, omega (arith, more, p .0 .inputs, p .0 .gates), p .3, gate-is-right (s .args .t2) (l .loop .j) (p .1) (l .loop .inv .1) (p .0) more)
 
 add-j : tie.Need-add-j Inv-loop μ-loop
 add-j c = search needs
@@ -58,14 +54,15 @@ loop-less c = search needs
 loop-again : tie.Need-loop-again Inv-loop μ-loop
 loop-again c =
     let k = c .before .before in
-    let l = k .before .before .before .before .before .before .before in
+    let l = k .before .before .before .before .before in
     let s = l .before .before in
-    let a = s .args in (
-      omega (arith, k .before .before .before .before .before .before .loop-test .taken),
+    let a = s .args in
+    let more = k .before .before .before .before .loop-test .taken in (
+      search needs,
       l .loop .inv .1,
       search needs,
-      gates-next (a .t2) (a .f) (a .n) (l .loop .j) (s .pre .2) (s .pre .0) (l .loop .inv .1) (k .before .before .before .before .before .before .loop-test .taken) (k .before .through .result) (k .before .through .ensures)
-          (k .before .before .before .before .slot .ensures .0) (k .before .before .before .slot2 .ensures .0) (l .loop .inv .3) (k .kind-column .ensures),
+      gates-next (a .t2) (a .f) (a .n) (l .loop .j) (s .pre .3) (s .pre .0) (l .loop .inv .1) more (k .before .through .result) (k .before .through .ensures)
+          (gate-is-right (a .t2) (l .loop .j) (s .pre .1) (l .loop .inv .1) (s .pre .0) more) (l .loop .inv .3) (k .gate-column .ensures),
     )
 
 same-length : tie.Need-same-length Inv-loop μ-loop
@@ -88,12 +85,10 @@ gate-columns-spec =
     loop-holds
     mul-gate
     element-copy-out-gate
-    slot-requires
-    slot-requires-2
     add-line
     add-line-2
     through-requires
-    kind-column-requires
+    gate-column-requires
     add-j
     loop-less
     loop-again

@@ -1,6 +1,5 @@
 use borrow.Author.Needs.{needs}
 use borrow.Author.Tests.{lt-ltb, le-ltb}
-use mathlib.Core.Path.{ap}
 use Rattle.simulation.specs.Steps.{rowBitOf}
 use Rattle.simulation.proofs.row_bit.Statement.{statement}
 use Rattle.simulation.proofs.row_bit.Tie as tie

@@ -12,7 +12,7 @@ use Rattle.integer.specs.Sum.{sumTo}
 use Rattle.integer.proofs.Machine.{reads-back, add-fits, add-is}
 use Rattle.integer.proofs.Tabs.{length-mapped}
 use Rattle.statements.specs.Items.{noOutput}
-use Rattle.gates.specs.Steps.{shownAt}
+use Rattle.columns.specs.Steps.{shownAt}
 use Rattle.simulation.specs.Rows.{weighed}
 use Rattle.simulation.specs.Steps.{readTerm, readSum}
 use Rattle.simulation.proofs.RowValues.{sum-room, sum-more, sum-small}

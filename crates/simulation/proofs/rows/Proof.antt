@@ -11,7 +11,7 @@ use Rattle.simulation.proofs.rows.Statement.{statement}
 use Rattle.simulation.proofs.rows.Tie as tie
 
 few : (s : tie.Start) → length (s .args .out .now) ≤ 256
-few s = omega (arith, s .pre .1, row-count-few (s .args .c) (s .pre .0))
+few s = omega (arith, s .pre .2, row-count-few (s .args .c) (s .pre .0))
 
 outputs : (s : tie.Start) → length (s .args .c .outputs) ≡ 4
 outputs s = search (needs, length-mapped)
@@ -26,7 +26,7 @@ slice-aggregate-gate-columns : tie.Need-slice-aggregate-gate-columns
 slice-aggregate-gate-columns c = search needs
 
 gate-columns-requires : tie.Need-gate-columns-requires
-gate-columns-requires c κs = let s = c .before .before .before .before in (s .pre .0, search needs, few s, c .before .before .input-columns .ensures)
+gate-columns-requires c κs = let s = c .before .before .before .before in (s .pre .0, s .pre .1, search needs, few s, c .before .before .input-columns .ensures)
 
 slice-aggregate-row-values : tie.Need-slice-aggregate-row-values
 slice-aggregate-row-values c = search needs
@@ -42,7 +42,7 @@ returns c =
     let g = c .before .before .before .before .before .before in
     let s = g .before .before .before .before .before in
     c .before .row-values .ensures
-    ∙ rows-read (s .args .c) (s .args .f) (length (s .args .out .now)) (s .pre .0) (omega (arith, s .pre .0 .outputs, outputs s)) (s .pre .1) (g .gate-columns .ensures)
+    ∙ rows-read (s .args .c) (s .args .f) (length (s .args .out .now)) (s .pre .0) (omega (arith, s .pre .0 .outputs, outputs s)) (s .pre .2) (g .gate-columns .ensures)
 
 pub rows-spec : {M : Type 1} → statement M
 rows-spec =

@@ -3,8 +3,9 @@
 //! its circuit call against rows one by one and that transform, its plan and
 //! report calls on a circuit and on a table, and its plan call on both with
 //! bridges, against the same with a choice of labels that is cut short, its
-//! reading and pair calls against a plain mean of those rows, and the program
-//! `signature` on the listing, from its start to its end, against `report`.
+//! reading and pair calls against a plain mean of those rows, these calls on
+//! circuits of wide gates, and the program `signature` on the listing, from its
+//! start to its end, against `report`.
 
 use differential::{fast, library};
 use second::circuits::{worst_search, Draft, Sizes, LISTING};
@@ -14,7 +15,7 @@ use second::reading::Reading;
 use second::report::{self, REPORT_ROOM};
 use second::table_texts;
 use second::walsh::ROW_LIMIT;
-use second::{bridge_texts, devices, netlist, reading, walsh};
+use second::{bridge_texts, devices, netlist, reading, walsh, wide_texts};
 use std::hint::black_box;
 use std::io::Write;
 use std::path::{Path, PathBuf};
@@ -112,6 +113,48 @@ fn report_race<'a>(
     }
 }
 
+/// The circuit call on a text, sound and under each of its faults.
+fn circuit_race<'a>(
+    name: &'static str,
+    text: &'a [u8],
+    faults: u32,
+    [out, fast_out]: [&'a mut [i32]; 2],
+) -> Race<'a> {
+    Race {
+        name,
+        library: Contender::new("library", move || {
+            for fault in 0..=faults {
+                let out = black_box(&mut out[..CIRCUIT_LENGTH]);
+                black_box(library::circuit(black_box(text), black_box(fault), out));
+            }
+        }),
+        others: vec![Contender::new("rows, fast transform", move || {
+            for fault in 0..=faults {
+                let out = black_box(&mut fast_out[..CIRCUIT_LENGTH]);
+                let _ = black_box(fast::circuit(black_box(text), black_box(fault), out));
+            }
+        })],
+    }
+}
+
+/// The reading call on a text, without fixed inputs.
+fn reading_race<'a>(name: &'static str, text: &'a [u8]) -> Race<'a> {
+    Race {
+        name,
+        library: Contender::new("library", move || {
+            black_box(library::reading(
+                black_box(text),
+                black_box(0),
+                black_box(0),
+            ));
+        }),
+        others: vec![Contender::new("rows, mean in binary64", move || {
+            let text = black_box(text);
+            let _ = black_box(fast::reading(text, black_box(0), black_box(0)));
+        })],
+    }
+}
+
 /// What a program writes for a text on standard input.
 fn run(program: &Path, text: &[u8]) -> Vec<u8> {
     let mut child = Command::new(program)
@@ -146,34 +189,43 @@ fn main() {
     check_bridge(&spectrum, bridge);
     let text = Draft::draw(&mut random, Sizes::LARGEST).text();
     let faults = check_circuit(&text);
-    let planned = planned_text(&mut random);
+    let planned = planned_text(&mut random, |random| Draft::draw(random, Sizes::LARGEST));
     let table = table_texts::largest().text();
     let bridges = bridged_text(&mut random);
     let table_bridges = bridged_table();
-    for text in [&planned, &table, &bridges, &table_bridges] {
+    // Numbers of their own, so that the texts above stay as they were.
+    let mut random = Random::new(1_792);
+    let wide = wide_texts::largest(&mut random).text();
+    assert_eq!(check_circuit(&wide), faults);
+    let wide_planned = planned_text(&mut random, wide_texts::largest);
+    for text in [&planned, &table, &bridges, &table_bridges, &wide_planned] {
         check_plan(text);
     }
     let worst = worst_search().text();
     check_worst_search(&worst);
     check_readings(&text, faults);
+    check_readings(&wide, faults);
     let [signature, plain_report] = &programs();
     check_programs(signature, plain_report);
 
     let (rows, spectrum, text) = (&rows[..], &spectrum[..], &text[..]);
     let (planned, table, worst) = (&planned[..], &table[..], &worst[..]);
     let (bridges, table_bridges) = (&bridges[..], &table_bridges[..]);
+    let (wide, wide_planned) = (&wide[..], &wide_planned[..]);
     // One buffer for each contender, so that none meets another's result.
-    let mut buffers = vec![vec![0; LENGTH]; 8];
+    let mut buffers = vec![vec![0; LENGTH]; 10];
     let mut lend = buffers.iter_mut();
-    let mut buffer = || lend.next().expect("a buffer for each contender");
+    let mut buffer = || &mut lend.next().expect("a buffer for each contender")[..];
     let (to_spectrum, to_fast, to_rows) = (buffer(), buffer(), buffer());
     let (to_stuck, to_opened, to_bridged) = (buffer(), buffer(), buffer());
-    let (to_circuit, to_fast_circuit) = (buffer(), buffer());
+    let [to_circuit, to_wide] = [(); 2].map(|_| [buffer(), buffer()]);
     let mut working = [(); 7].map(|_| vec![0; WORKING_NUMBERS]);
     let [to_plan, to_search, to_report, to_table_plan, to_table_report, to_bridges, to_table_bridges] =
         &mut working;
-    let mut bytes = [(); 2].map(|_| vec![0; REPORT_ROOM]);
-    let [to_bytes, to_table_bytes] = &mut bytes;
+    let mut working = [(); 2].map(|_| vec![0; WORKING_NUMBERS]);
+    let [to_wide_plan, to_wide_report] = &mut working;
+    let mut bytes = [(); 3].map(|_| vec![0; REPORT_ROOM]);
+    let [to_bytes, to_table_bytes, to_wide_bytes] = &mut bytes;
 
     let mut races = [
         Race {
@@ -240,21 +292,7 @@ fn main() {
                 let _ = black_box(walsh::bridged(black_box(spectrum), first, second, LENGTH));
             })],
         },
-        Race {
-            name: "circuit, sound and 32 faults",
-            library: Contender::new("library", move || {
-                for fault in 0..=faults {
-                    let out = black_box(&mut to_circuit[..CIRCUIT_LENGTH]);
-                    black_box(library::circuit(black_box(text), black_box(fault), out));
-                }
-            }),
-            others: vec![Contender::new("rows, fast transform", move || {
-                for fault in 0..=faults {
-                    let out = black_box(&mut to_fast_circuit[..CIRCUIT_LENGTH]);
-                    let _ = black_box(fast::circuit(black_box(text), black_box(fault), out));
-                }
-            })],
-        },
+        circuit_race("circuit, sound and 32 faults", text, faults, to_circuit),
         plan_race("plan, largest circuit", planned, to_plan),
         report_race("report, largest circuit", planned, to_bytes, to_report),
         plan_race("plan, largest table", table, to_table_plan),
@@ -266,20 +304,7 @@ fn main() {
         ),
         plan_race("plan, circuit of 32 bridges", bridges, to_bridges),
         plan_race("plan, table of 28 bridges", table_bridges, to_table_bridges),
-        Race {
-            name: "reading, largest circuit",
-            library: Contender::new("library", move || {
-                black_box(library::reading(
-                    black_box(text),
-                    black_box(0),
-                    black_box(0),
-                ));
-            }),
-            others: vec![Contender::new("rows, mean in binary64", move || {
-                let text = black_box(text);
-                let _ = black_box(fast::reading(text, black_box(0), black_box(0)));
-            })],
-        },
+        reading_race("reading, largest circuit", text),
         Race {
             name: "pair, largest circuit",
             library: Contender::new("library", move || {
@@ -296,6 +321,15 @@ fn main() {
                 let _ = black_box(fast::pair(text, fault, black_box(0), black_box(0)));
             })],
         },
+        circuit_race("circuit, four fields a gate", wide, faults, to_wide),
+        plan_race("plan, four fields a gate", wide_planned, to_wide_plan),
+        report_race(
+            "report, four fields a gate",
+            wide_planned,
+            to_wide_bytes,
+            to_wide_report,
+        ),
+        reading_race("reading, four fields a gate", wide),
         plan_race(WORST_SEARCH, worst, to_search),
         Race {
             name: "signature, the listing",
@@ -322,7 +356,7 @@ fn main() {
     println!("Microseconds per call, median of {ROUNDS} interleaved rounds; the ratio of the");
     println!("medians, and between which ratios the middle four fifths of the rounds lie.");
     println!("Buffers were not cleared between calls; \"second\" makes its own list.");
-    println!("The circuit row is {} calls on one text.", faults + 1);
+    println!("The circuit rows are {} calls on one text.", faults + 1);
     println!();
     println!(
         "{:<30}{:>10}  {:<24}{:>10}{:>9}  {}",
@@ -413,9 +447,9 @@ fn check_circuit(text: &[u8]) -> u32 {
 }
 
 /// A circuit of the largest size with a plan of more than one label.
-fn planned_text(random: &mut Random) -> Vec<u8> {
+fn planned_text(random: &mut Random, draw: fn(&mut Random) -> Draft) -> Vec<u8> {
     loop {
-        let draft = Draft::draw(random, Sizes::LARGEST);
+        let draft = draw(random);
         let changing = draft.changing_faults();
         // Faults that change a row stand in for the silent ones.
         let faults: Vec<_> = changing.iter().cycle().take(32).cloned().collect();

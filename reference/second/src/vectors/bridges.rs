@@ -3,16 +3,15 @@
 use super::examples::every_call;
 use super::lists::{ends, room};
 use super::texts::damaged;
-use super::uses::{faults, fixtures, plans, refused, short_buffers};
+use super::uses::{faults, fixtures, plans, refused, reports, short_buffers};
 use super::Case;
 use crate::bridge_texts::{
     circuit_with_labels, draw_changing, draw_circuit, draw_table, table_with_labels, with_bridges,
     BRIDGED_TABLE, BRIDGE_DAMAGES, EXAMPLES, EXAMPLE_ONES, LISTING_WITH_A_BRIDGE,
 };
 use crate::circuits::{with_line, Damage, Draft, Sizes, DAMAGES};
-use crate::plan::{CAP_LIMIT, WORKING_NUMBERS};
+use crate::plan::CAP_LIMIT;
 use crate::random::Random;
-use crate::report::REPORT_ROOM;
 use crate::table_texts::draw_with;
 use crate::walsh::{self, COEFFICIENT_LIMIT, ROW_LIMIT};
 
@@ -209,10 +208,7 @@ fn small(random: &mut Random, inputs: usize, table: bool) -> Draft {
 
 fn of_texts(random: &mut Random) -> Vec<Case> {
     let texts = texts(random);
-    let mut cases: Vec<Case> = texts
-        .iter()
-        .map(|text| Case::report(text, REPORT_ROOM, WORKING_NUMBERS))
-        .collect();
+    let mut cases = reports(&texts);
     let mut good: Vec<Vec<u8>> = [LISTING_WITH_A_BRIDGE, BRIDGED_TABLE]
         .map(|text| text.as_bytes().to_vec())
         .into();

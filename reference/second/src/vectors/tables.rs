@@ -2,7 +2,7 @@
 
 use super::examples::every_call;
 use super::texts::{damaged, padded};
-use super::uses::{faults, fixtures, plans, refused, short_buffers};
+use super::uses::{faults, fixtures, plans, refused, reports, short_buffers};
 use super::Case;
 use crate::circuits::{Damage, Draft, DAMAGES};
 use crate::lines::TEXT_LIMIT;
@@ -34,8 +34,7 @@ pub fn cases(random: &mut Random) -> Vec<Case> {
     cases.push(Case::reading(&too_long, 0, 0));
 
     let texts = texts(random);
-    let reports = texts.iter();
-    cases.extend(reports.map(|text| Case::report(text, REPORT_ROOM, WORKING_NUMBERS)));
+    cases.extend(reports(&texts));
     let mut good = vec![SMALL.as_bytes().to_vec(), FIGURE.as_bytes().to_vec()];
     for inputs in [1, 3, 5, 8] {
         good.push(draw_with(random, inputs, 3).text());

@@ -148,6 +148,14 @@ pub fn refused(texts: &[Vec<u8>], numbers: &[u32]) -> Vec<Case> {
     cases
 }
 
+/// The report on each of the texts.
+pub fn reports(texts: &[Vec<u8>]) -> Vec<Case> {
+    texts
+        .iter()
+        .map(|text| Case::report(text, REPORT_ROOM, WORKING_NUMBERS))
+        .collect()
+}
+
 /// Plans of some of the texts that have reports.
 pub fn plans(texts: &[Vec<u8>]) -> Vec<Case> {
     let short = texts.iter().filter(|text| text.len() < 400);

@@ -3,7 +3,7 @@ use borrow.Author.Needs.{needs}
 use denote.Ref.{now}
 use native.Mathlib.Omega.{arith}
 use Prim.Native.Nat.{_-_}
-use Rattle.statements.specs.Lines.{gateOf}
+use Rattle.gate_lines.specs.GateLines.{gateOf}
 use Rattle.sections.proofs.LineLoops.{ReadSoFar, begun, turned, missing, declined, finished}
 use Rattle.netlist.specs.Parsing.{nthGateRefusal}
 use Rattle.netlist.proofs.parsing.gates.Statement.{statement}

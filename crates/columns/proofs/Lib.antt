@@ -1,0 +1,2 @@
+pub mod AppliedInputs
+pub mod Making

@@ -1,0 +1,3 @@
+pub mod GateItems
+pub mod GateLines
+pub mod GateForms
