@@ -1,4 +1,6 @@
 // The spectrum under a bridge of two inputs, from coefficients alone. As in `faults` the call has no `requires` and refuses what it cannot take.
+#![tactic(auto)]
+
 ghost use Rattle.std.specs.Prelude.{◌≡◌, ◌≤◌, ◌<◌, length};
 ghost use Rattle.integer.specs.Tab.{Within, nth};
 ghost use Rattle.results.specs.Results.{leaves, written};

@@ -1,5 +1,7 @@
 // The C functions: numbers and slices in (a slice as a pointer and a length), a struct of `replies` out. Each calls one function of the library and
 // passes on what that answers and what it leaves in the lent buffers. `rt staticlib capi` writes them to a static library for C and Rust.
+#![tactic(auto)]
+
 ghost use Rattle.std.specs.Prelude.{◌≡◌, length};
 ghost use Rattle.bridges.specs.Bridges.{bridged_answer, bridged_spectrum_of};
 ghost use Rattle.faults.specs.Faults.{stuck_of, stuck_answer, stuck_spectrum_of, opened_answer, opened_spectrum_of};

@@ -1,4 +1,6 @@
 // The circuit call of document 01: the spectrum of what a text describes, a circuit or a table, sound or under one of its faults.
+#![tactic(auto)]
+
 ghost use Rattle.std.specs.Prelude.{◌≡◌, ◌^◌, ◌≤◌, length};
 ghost use Rattle.devices.specs.Devices.{problem_of, Fit};
 ghost use Rattle.devices.specs.Problems.{rows_at};

@@ -1,5 +1,7 @@
 // What a line shows under a fault, and the column of an input: its value on every row. Which lines there are, and what gates compute, is the business of other
 // crates.
+#![tactic(auto)]
+
 ghost use Rattle.std.specs.Prelude.{true, false, ◌≡◌, ◌+◌, ◌≤◌, ◌<◌, length};
 ghost use Rattle.columns.specs.Shown.{stuck_or, shown};
 ghost use Rattle.columns.specs.Steps.{seen_as, Columned, input_rule};

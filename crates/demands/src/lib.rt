@@ -1,1 +1,2 @@
 // No code: the three demands as records in specs/, and their laws in proofs/, over the definitions that the calls' promises cite.
+#![tactic(auto)]

@@ -1,4 +1,6 @@
 // What a text describes, a circuit or a table, and its rows. The calls that plan and report know this crate and neither parser.
+#![tactic(auto)]
+
 ghost use Rattle.std.specs.Prelude.{◌≡◌, ◌^◌, ◌≤◌, length};
 ghost use Rattle.netlist.specs.Circuits.{netlist_of, Sized, fault_at};
 ghost use Rattle.netlist.specs.Parsing.{meaning};

@@ -2,6 +2,8 @@
 // compiler then works many rows at a time.
 //
 // `values` has what each line shows on each row: 58 columns of 256 values, 14,848 in all, with line i on row x at 256 * i + x.
+#![tactic(auto)]
+
 ghost use Rattle.std.specs.Prelude.{[], ◌∷◌, ◌≡◌, ◌≤◌, length};
 ghost use Rattle.kinds.specs.declared.Kind.TheVariants.{Not};
 ghost use Rattle.columns.specs.Steps.{Columned};

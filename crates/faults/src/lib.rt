@@ -1,5 +1,7 @@
 // The spectrum under a fault, from coefficients alone: stuck inputs, and opened lines. As in `walsh` the calls have no `requires` and refuse what
 // they cannot take.
+#![tactic(auto)]
+
 ghost use Rattle.std.specs.Prelude.{◌≡◌, true, ◌+◌, ◌^◌, ◌≤◌, ◌<◌, ◌+ℤ◌, nat_abs, length};
 ghost use Rattle.integer.specs.Sum.{signed};
 ghost use Rattle.integer.specs.Tab.{Within};

@@ -1,4 +1,6 @@
 // The fields of a line: its word, its numbers, and the tests that lines of every kind share. What a line says is the business of other crates.
+#![tactic(auto)]
+
 ghost use Rattle.std.specs.Prelude.{◌≡◌, ◌-◌, ◌≤◌};
 ghost use Rattle.text.specs.Text.{number_of};
 ghost use Rattle.fields.specs.Fields.{is_number, value_at, numbers_from, is_line, in_range, unless};

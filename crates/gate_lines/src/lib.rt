@@ -1,6 +1,8 @@
 // The line of a gate: what it says, with the number by which it is refused, or 0. What a gate computes is the business of other crates.
 //
 // Its numbers are read once, all its tests are made on them, and the first that fails gives the number. What it says counts only where all pass.
+#![tactic(auto)]
+
 ghost use Rattle.std.specs.Prelude.{◌&&◌, ◌≡◌};
 ghost use Rattle.text.specs.Text.{field_count};
 ghost use Rattle.fields.specs.Fields.{is_line, value_at};

@@ -2,6 +2,8 @@
 //
 // Bits are a number behind a leading 1, A's the highest: `0b1_0110` is A, B, C, D = 0, 1, 1, 0. Each kind has a file with a line for each of its cases, two bits
 // counting up, then three, then four, and one for `not`: 170 in all, those of `gate_table` in its order. The last arm of each `match` is never taken.
+#![tactic(auto)]
+
 mod and;
 mod nand;
 mod nor;

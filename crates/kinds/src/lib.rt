@@ -1,4 +1,6 @@
 // The kinds of gates and the words that they are written as. What a gate computes is the business of other crates.
+#![tactic(auto)]
+
 ghost use Rattle.std.specs.Prelude.{◌≡◌};
 ghost use Rattle.kinds.specs.Kinds.{is_kind, kind_of};
 

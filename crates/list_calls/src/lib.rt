@@ -1,4 +1,6 @@
 // Holds the calls that write a list into a lent result, and the call for one coefficient, to stored cases.
+#![tactic(auto)]
+
 use cases::heads::Call;
 use cases::lines;
 use cases::numbers::argument;

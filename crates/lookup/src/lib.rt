@@ -1,4 +1,6 @@
 // The rows of a table, sound and under a fault: each is looked up among the marks.
+#![tactic(auto)]
+
 ghost use Rattle.std.specs.Prelude.{◌≡◌, ◌≤◌, ◌<◌, ◌^◌, pos, length};
 ghost use Rattle.tables.specs.Tables.{truth_table_of, TableSized};
 ghost use Rattle.lookup.specs.StuckPairs.{OfInputs};

@@ -1,4 +1,6 @@
 // The circuit as data, and the parser of the circuit text with refusals 1 to 7 and 19. What a circuit computes is the business of other crates.
+#![tactic(auto)]
+
 mod parsing;
 
 ghost use Rattle.std.specs.Prelude.{◌≡◌, ◌≤◌};

@@ -1,4 +1,6 @@
 // The plan call of document 01 on a text of either kind.
+#![tactic(auto)]
+
 mod plan_call;
 
 pub use plan_call::plan;

@@ -1,4 +1,6 @@
 // Readings for a fixture: the exact fraction of a sum of rows by their count, in binary64. Where the rows come from is the business of other crates.
+#![tactic(auto)]
+
 ghost use Rattle.std.specs.Prelude.{◌≡◌, ◌≤◌, length};
 ghost use Rattle.integer.specs.Tab.{Within};
 ghost use Rattle.reading.specs.Readings.{whole_sum, count_of, quotient, mean_of, case_of, pair_of};

@@ -1,5 +1,7 @@
 // The structs that the C functions return, each filled from the answer of a call: document 01's number, place and values of the answer, by the
 // definitions that the calls' own promises cite. (An exported function cannot return an enum.)
+#![tactic(auto)]
+
 ghost use Rattle.std.specs.Prelude.{◌≤◌};
 ghost use Rattle.replies.specs.Replies.{Gives, GivesFound, GivesPlan, GivesReport, GivesReading, GivesPair, GivesSpan};
 

@@ -1,4 +1,6 @@
 // The report: the plan with its sound coefficients, and for each fault what the fixture counts under it.
+#![tactic(auto)]
+
 ghost use Rattle.std.specs.Prelude.{◌≡◌, ◌≤◌, ◌<◌, ◌^◌, length};
 ghost use Rattle.integer.specs.ListTests.{Below};
 ghost use Rattle.devices.specs.Devices.{problem_of, Fit};

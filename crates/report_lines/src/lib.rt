@@ -1,4 +1,6 @@
 // The lines of a report, one kind at a time: of a refusal, of the labels of a plan, of the faults.
+#![tactic(auto)]
+
 ghost use Rattle.std.specs.Prelude.{[], ◌∷◌, ◌≡◌, ◌+◌, ◌*◌, ◌≤◌, ◌<◌, ◌^◌, pos, length};
 ghost use Rattle.integer.specs.Tab.{Within, nth};
 ghost use Rattle.integer.specs.ListTests.{Below};

@@ -1,5 +1,7 @@
 // A list of 32-bit numbers to working numbers of 64 bits, and these to the lent result: copied, or divided with refusal 11. The calls that work
 // on them are other crates'; what they ask for is a `requires`, and none of these functions is a call of the papers.
+#![tactic(auto)]
+
 ghost use Rattle.std.specs.Prelude.{◌≡◌, ◌+◌, ◌≤◌, nat_abs, length};
 ghost use Rattle.integer.specs.Tab.{Within};
 ghost use Rattle.results.specs.Results.{leaves, written};

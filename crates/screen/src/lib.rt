@@ -1,4 +1,6 @@
 // The tests that every call on a list begins with.
+#![tactic(auto)]
+
 ghost use Rattle.std.specs.Prelude.{◌≡◌};
 ghost use Rattle.screen.specs.Answers.{inputs_of, first_outside, screen_of};
 ghost use Rattle.screen.specs.Steps.{any_outside};

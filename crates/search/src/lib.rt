@@ -1,5 +1,7 @@
 // The shortest set of labels whose masks together have every fault: sets of one label, then two, up to the cap. It works on places of the order, with
 // one mask a place: bit f is set where the label covers fault f. What order that is and where masks come from is the business of other crates.
+#![tactic(auto)]
+
 ghost use Rattle.std.specs.Prelude.{true, not, ◌≡◌, ◌+◌, ◌≤◌, ◌<◌, ◌^◌, ◌-◌, eqb, length};
 ghost use Rattle.integer.specs.Counting.{up_to};
 ghost use Rattle.integer.specs.Mask.{without};

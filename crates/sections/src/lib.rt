@@ -1,4 +1,6 @@
 // The fault lines of a text, one after the other. The definitions and laws beside them are over lines of any kind.
+#![tactic(auto)]
+
 ghost use Rattle.std.specs.Prelude.{◌≡◌, [], ◌≤◌, drop};
 ghost use Rattle.statements.specs.Lines.{fault_line_of};
 ghost use Rattle.sections.specs.Sections.{lines_of, read_of};

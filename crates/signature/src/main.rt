@@ -1,4 +1,6 @@
 // The program `signature`: a circuit text from standard input, its report to standard output.
+#![tactic(auto)]
+
 ghost use Rattle.std.specs.Prelude.{◌≡◌, ◌+◌, ◌≤◌, length, take};
 ghost use Rattle.io.specs.Counts.{IsPrefixLen};
 ghost use Rattle.planner.specs.PlanCall.{working_numbers};

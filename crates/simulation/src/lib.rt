@@ -1,5 +1,7 @@
 // Simulation of a circuit: the rows of its outputs, sound or under a fault. Where a circuit comes from and what is done with its rows is the
 // business of other crates.
+#![tactic(auto)]
+
 ghost use Rattle.std.specs.Prelude.{◌≡◌, ◌+◌, ◌≤◌, ◌<◌, ◌^◌, nat_abs, length};
 ghost use Rattle.integer.specs.Tab.{tab};
 ghost use Rattle.netlist.specs.Circuits.{netlist_of, Sized};

@@ -3,6 +3,8 @@
 //
 // A line's numbers are read once, all its tests are made on them, and the first that fails gives the number. What a line says counts only where
 // all pass.
+#![tactic(auto)]
+
 ghost use Rattle.std.specs.Prelude.{◌≡◌, suc, ◌≤◌};
 ghost use Rattle.fields.specs.Fields.{value_at};
 ghost use Rattle.statements.specs.Lines.{head_refusal, head_of, output_refusal, output_of, is_fault, pair_in_range, fault_refusal, fault_of, bridge_refusal, bridge_of, fault_line_refusal, fault_line_of};

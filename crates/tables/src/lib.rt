@@ -1,4 +1,6 @@
 // The table as data, and the parser of its text with refusals 1, 2, 3, 5, 6, 7, 15 and 19. What its rows are is the business of `lookup`.
+#![tactic(auto)]
+
 mod parsing;
 
 ghost use Rattle.std.specs.Prelude.{◌≡◌, ◌≤◌};

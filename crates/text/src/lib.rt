@@ -1,4 +1,6 @@
 // Fields, words and numbers of a text, as they are read. What a line means is the business of other crates.
+#![tactic(auto)]
+
 ghost use Rattle.std.specs.Prelude.{◌≡◌, ◌+◌, length, drop};
 ghost use Rattle.text.specs.Text.{index_of, field_of, field_start, further, field_count, same_bytes, number_of};
 

@@ -1,4 +1,6 @@
 // Holds the calls on a text that write no list, plan, report, reading, pair and field, to stored cases.
+#![tactic(auto)]
+
 use cases::lines;
 use planner::Planned;
 use reading::Reading;

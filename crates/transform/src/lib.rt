@@ -1,4 +1,6 @@
 // The whole spectrum in place, by sums and differences of halves.
+#![tactic(auto)]
+
 ghost use Rattle.std.specs.Prelude.{◌≡◌, ◌+◌, ◌^◌, ◌≤◌, length};
 ghost use Rattle.integer.specs.Tab.{Within};
 ghost use Rattle.transform.specs.Spectrum.{spectrum_of};

@@ -19,6 +19,8 @@
 //     field                      number               start   the field
 //
 // A case whose head is damaged or that is cut differs.
+#![tactic(auto)]
+
 ghost use Rattle.std.specs.Prelude.{◌≤◌};
 
 use cases::heads::{Call, CaseHead};

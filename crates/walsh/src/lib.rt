@@ -2,6 +2,8 @@
 //
 // The calls of the papers have no `requires`: what a call cannot take it refuses, with document 01's number and place, and then
 // leaves the lent result as it was.
+#![tactic(auto)]
+
 mod direct;
 mod lists;
 

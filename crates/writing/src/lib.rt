@@ -1,4 +1,6 @@
 // A writer of bytes and decimals into a lent text. Each call writes from index `at` on and gives the index after what it wrote.
+#![tactic(auto)]
+
 ghost use Rattle.std.specs.Prelude.{◌≡◌, ◌+◌, ◌≤◌, nat_abs, length};
 ghost use Rattle.writing.specs.Writing.{placed, decimal_of, integer_of, numbers_of, line_of};
 

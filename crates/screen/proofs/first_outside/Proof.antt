@@ -19,10 +19,10 @@ use Rattle.screen.proofs.Screens.{outside_low, outside_high, outside-none, outsi
 use Rattle.screen.proofs.first_outside.Statement.{statement}
 use Rattle.screen.proofs.first_outside.Tie as tie
 
-abbrev invariant-loop : tie.invariant-loop
+abbrev invariant-loop : tie.invariant-loop-i
 invariant-loop list low high i₀ i = (i ≤ length list) × ((x : ℕ) → x < i → outside_at (to_z w32 low) (to_z w32 high) list x ≡ false)
 
-abbrev decreases-loop : tie.decreases-loop
+abbrev decreases-loop : tie.decreases-loop-i
 decreases-loop list low high i₀ i = length list - i
 
 -- the machine reads a number back from its bits
@@ -32,69 +32,69 @@ back z = to_z w32 (of_z w32 z)
 plain : (z : ℤ) → mag z < 2 ^ 31 → back z ≡ z
 plain z h = to_z-of_z w32 z (record { sfits = h })
 
-any-outside-requires : tie.Need-any-outside-requires invariant-loop decreases-loop
+any-outside-requires : tie.Need-any_outside-requires invariant-loop decreases-loop
 any-outside-requires c κs = search rules
 
-returns : tie.Need-returns invariant-loop decreases-loop
+returns : tie.Need-returns-then-not-any_outside invariant-loop decreases-loop
 returns c =
     let s = c.before.before in
     let a = s.args in
-    sym (any-all (back a.low) (back a.high) a.list.now (sym c.before.any-outside.ensures ∙ not-true _ c.if1.true))
+    sym (any-all (back a.low) (back a.high) a.list.now (sym c.before.any_outside.ensures ∙ c.if-not-any_outside.true))
     ∙ outside-back a.low a.high a.list.now s.ranges.low s.ranges.high
 
-loop-holds : tie.Need-loop-init invariant-loop decreases-loop
+loop-holds : tie.Need-loop-i-init invariant-loop decreases-loop
 loop-holds c = (search rules, λ x h. absurd (omega arith))
 
-mul-z : tie.Need-overflow-mul-z invariant-loop decreases-loop
+mul-z : tie.Need-offset_bounds-list-i invariant-loop decreases-loop
 mul-z c = search rules
 
-shared-slice-copy-out-z : tie.Need-shared-slice-copy-out-z invariant-loop decreases-loop
+shared-slice-copy-out-z : tie.Need-bounds-list-i invariant-loop decreases-loop
 shared-slice-copy-out-z c = search rules
 
-returns-2 : tie.Need-returns-2 invariant-loop decreases-loop
+returns-2 : tie.Need-returns-then-z-low invariant-loop decreases-loop
 returns-2 c =
     let l = c.before.before.before in
     let a = l.before.before.before.args in
-    let z = nth a.list.now l.loop.i in
+    let z = nth a.list.now l.loop-i.i in
     let low = back a.low in
-    let e = outside_low low (back a.high) z (ap (λ (y : ℤ). lt_z y low) (sym (plain z c.before.z.given)) ∙ c.if2.true) in
-    sym (found-outside low (back a.high) a.list.now l.loop.i c.before.before.loop-test.true l.loop.invariant.1 e) ∙ outside-back a.low a.high a.list.now l.before.before.before.ranges.low l.before.before.before.ranges.high
+    let e = outside_low low (back a.high) z (ap (λ (y : ℤ). lt_z y low) (sym (plain z c.before.z-1.given)) ∙ c.if-z-low.true) in
+    sym (found-outside low (back a.high) a.list.now l.loop-i.i c.before.before.loop-i-test.true l.loop-i.invariant.1 e) ∙ outside-back a.low a.high a.list.now l.before.before.before.ranges.low l.before.before.before.ranges.high
 
-returns-3 : tie.Need-returns-3 invariant-loop decreases-loop
+returns-3 : tie.Need-returns-then-high-z invariant-loop decreases-loop
 returns-3 c =
     let l = c.before.before.before.before in
     let a = l.before.before.before.args in
-    let z = nth a.list.now l.loop.i in
+    let z = nth a.list.now l.loop-i.i in
     let high = back a.high in
-    let e = outside_high (back a.low) high z (ap (λ (y : ℤ). lt_z high y) (sym (plain z c.before.before.z.given)) ∙ c.if3.true) in
-    sym (found-outside (back a.low) high a.list.now l.loop.i c.before.before.before.loop-test.true l.loop.invariant.1 e) ∙ outside-back a.low a.high a.list.now l.before.before.before.ranges.low l.before.before.before.ranges.high
+    let e = outside_high (back a.low) high z (ap (λ (y : ℤ). lt_z high y) (sym (plain z c.before.before.z-1.given)) ∙ c.if-high-z.true) in
+    sym (found-outside (back a.low) high a.list.now l.loop-i.i c.before.before.before.loop-i-test.true l.loop-i.invariant.1 e) ∙ outside-back a.low a.high a.list.now l.before.before.before.ranges.low l.before.before.before.ranges.high
 
-add-i : tie.Need-overflow-add-i invariant-loop decreases-loop
+add-i : tie.Need-overflow_add-i invariant-loop decreases-loop
 add-i c = search rules
 
-loop-less : tie.Need-loop-smaller invariant-loop decreases-loop
+loop-less : tie.Need-loop-i-smaller invariant-loop decreases-loop
 loop-less c = search rules
 
-loop-again : tie.Need-loop-preserved invariant-loop decreases-loop
+loop-again : tie.Need-loop-i-preserved invariant-loop decreases-loop
 unfolding outside_at
 loop-again c =
     let l = c.before.before.before.before in
     let a = l.before.before.before.args in
-    let z = nth a.list.now l.loop.i in
+    let z = nth a.list.now l.loop-i.i in
     let low = back a.low in
     let high = back a.high in
-    let here = sym (plain z c.before.before.z.given) in
-    let e = outside-none low high z (ap (λ (y : ℤ). lt_z y low) here ∙ c.before.if2.false) (ap (λ (y : ℤ). lt_z high y) here ∙ c.if3.false) in
-    (search rules, below_more _ _ l.loop.invariant.1 e)
+    let here = sym (plain z c.before.before.z-1.given) in
+    let e = outside-none low high z (ap (λ (y : ℤ). lt_z y low) here ∙ c.before.if-z-low.false) (ap (λ (y : ℤ). lt_z high y) here ∙ c.if-high-z.false) in
+    (search rules, below_more _ _ l.loop-i.invariant.1 e)
 
-returns-4 : tie.Need-returns-4 invariant-loop decreases-loop
+returns-4 : tie.Need-returns invariant-loop decreases-loop
 returns-4 c =
     let l = c.before in
     let a = l.before.before.before.args in
-    sym (none-outside (back a.low) (back a.high) a.list.now l.loop.i l.loop.invariant.0 c.loop-test.false l.loop.invariant.1) ∙ outside-back a.low a.high a.list.now l.before.before.before.ranges.low l.before.before.before.ranges.high
+    sym (none-outside (back a.low) (back a.high) a.list.now l.loop-i.i l.loop-i.invariant.0 c.loop-i-test.false l.loop-i.invariant.1) ∙ outside-back a.low a.high a.list.now l.before.before.before.ranges.low l.before.before.before.ranges.high
 
-pub first-outside-spec : {M : Type 1} → statement M
-first-outside-spec =
+pub first_outside_spec : {M : Type 1} → statement M
+first_outside_spec =
     tie.close
     (tie.spec
     invariant-loop

@@ -10,41 +10,41 @@ use Rattle.text.proofs.Parts.{count-hit, count-miss, count-end}
 use Rattle.text.proofs.fields.Statement.{statement}
 use Rattle.text.proofs.fields.Tie as tie
 
-abbrev invariant-loop : tie.invariant-loop
+abbrev invariant-loop : tie.invariant-loop-i
 invariant-loop text count₀ i₀ count i = (count ≤ i + 1) × (i ≤ length text) × (count + field_count (drop i text) ≡ field_count text + 1)
 
-abbrev decreases-loop : tie.decreases-loop
+abbrev decreases-loop : tie.decreases-loop-i
 decreases-loop text count₀ i₀ count i = length text - i
 
-loop-holds : tie.Need-loop-init invariant-loop decreases-loop
+loop-holds : tie.Need-loop-i-init invariant-loop decreases-loop
 loop-holds c = search rules
 
-shared-slice-read-if1 : tie.Need-shared-slice-read-if1 invariant-loop decreases-loop
+shared-slice-read-if1 : tie.Need-bounds-text-i invariant-loop decreases-loop
 shared-slice-read-if1 c = search rules
 
-add-count : tie.Need-overflow-add-count invariant-loop decreases-loop
+add-count : tie.Need-overflow_add-count invariant-loop decreases-loop
 add-count c = search rules
 
-add-i : tie.Need-overflow-add-i invariant-loop decreases-loop
+add-i : tie.Need-overflow_add-i invariant-loop decreases-loop
 add-i c = search rules
 
-loop-less : tie.Need-loop-smaller invariant-loop decreases-loop
+loop-less : tie.Need-loop-i-smaller invariant-loop decreases-loop
 loop-less c = search rules
 
-loop-again : tie.Need-loop-preserved invariant-loop decreases-loop
+loop-again : tie.Need-loop-i-preserved invariant-loop decreases-loop
 loop-again c =
     let a = c.before.before.before.before.args in
-    let i = c.before.before.before.loop.i in
+    let i = c.before.before.before.loop-i.i in
     ⊎_elim
     (λ w. omega (arith, count-hit a.text.now i (omega arith) w.0.taken))
     (λ w. omega (arith, count-miss a.text.now i (omega arith) w.0.left))
-    c.if1.branch
+    c.if-text-i-eq44.branch
 
 returns : tie.Need-returns invariant-loop decreases-loop
-returns c = omega (arith, count-end c.before.before.args.text.now c.before.loop.i (omega arith))
+returns c = omega (arith, count-end c.before.before.args.text.now c.before.loop-i.i (omega arith))
 
-pub fields-spec : {M : Type 1} → statement M
-fields-spec =
+pub fields_spec : {M : Type 1} → statement M
+fields_spec =
     tie.close
     (tie.spec
     invariant-loop

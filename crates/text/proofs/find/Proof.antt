@@ -9,40 +9,40 @@ use Rattle.text.proofs.Parts.{index-hit, index-miss, index-end}
 use Rattle.text.proofs.find.Statement.{statement}
 use Rattle.text.proofs.find.Tie as tie
 
-abbrev invariant-loop : tie.invariant-loop
+abbrev invariant-loop : tie.invariant-loop-i
 invariant-loop text from b i₀ i = from + index_of b (drop from text) ≡ i + index_of b (drop i text)
 
-abbrev decreases-loop : tie.decreases-loop
+abbrev decreases-loop : tie.decreases-loop-i
 decreases-loop text from b i₀ i = length text - i
 
-loop-holds : tie.Need-loop-init invariant-loop decreases-loop
+loop-holds : tie.Need-loop-i-init invariant-loop decreases-loop
 loop-holds c = refl
 
-shared-slice-read-if1 : tie.Need-shared-slice-read-if1 invariant-loop decreases-loop
+shared-slice-read-if1 : tie.Need-bounds-text-i invariant-loop decreases-loop
 shared-slice-read-if1 c = search rules
 
-returns : tie.Need-returns invariant-loop decreases-loop
+returns : tie.Need-returns-then-text-i invariant-loop decreases-loop
 returns c =
     let a = c.before.before.before.before.args in
-    let l = c.before.before.before.loop in
-    sym (l.invariant ∙ index-hit a.b a.text.now l.i (omega arith) c.if1.true)
+    let l = c.before.before.before.loop-i in
+    sym (l.invariant ∙ index-hit a.b a.text.now l.i (omega arith) c.if-text-i.true)
 
-add-i : tie.Need-overflow-add-i invariant-loop decreases-loop
+add-i : tie.Need-overflow_add-i invariant-loop decreases-loop
 add-i c = search rules
 
-loop-less : tie.Need-loop-smaller invariant-loop decreases-loop
+loop-less : tie.Need-loop-i-smaller invariant-loop decreases-loop
 loop-less c = search rules
 
-loop-again : tie.Need-loop-preserved invariant-loop decreases-loop
+loop-again : tie.Need-loop-i-preserved invariant-loop decreases-loop
 loop-again c =
     let a = c.before.before.before.before.args in
-    let l = c.before.before.before.loop in
-    l.invariant ∙ index-miss a.b a.text.now l.i (omega arith) c.if1.false
+    let l = c.before.before.before.loop-i in
+    l.invariant ∙ index-miss a.b a.text.now l.i (omega arith) c.if-text-i.false
 
-returns-2 : tie.Need-returns-2 invariant-loop decreases-loop
+returns-2 : tie.Need-returns invariant-loop decreases-loop
 returns-2 c =
     let a = c.before.before.args in
-    let l = c.before.loop in
+    let l = c.before.loop-i in
     sym (l.invariant ∙ index-end a.b a.text.now l.i (omega arith))
 
 pub find_spec : {M : Type 1} → statement M

@@ -7,50 +7,50 @@ use Rattle.text.proofs.Parts.{Rest, rest_all, rest-next, rest-past, rest-here}
 use Rattle.text.proofs.locate.Statement.{statement}
 use Rattle.text.proofs.locate.Tie as tie
 
-abbrev invariant-loop : tie.invariant-loop
+abbrev invariant-loop : tie.invariant-loop-i
 invariant-loop text k start₀ i₀ start i = (start ≤ length text) × (i ≤ k) × Rest text k i start
 
-abbrev decreases-loop : tie.decreases-loop
+abbrev decreases-loop : tie.decreases-loop-i
 decreases-loop text k start₀ i₀ start i = k - i
 
-loop-holds : tie.Need-loop-init invariant-loop decreases-loop
+loop-holds : tie.Need-loop-i-init invariant-loop decreases-loop
 loop-holds c = (search rules, search rules, rest_all c.before.args.text.now c.before.args.k)
 
-find-requires : tie.Need-find-requires invariant-loop decreases-loop
+find-requires : tie.Need-find-comma-requires invariant-loop decreases-loop
 find-requires c κs = search rules
 
-returns : tie.Need-returns invariant-loop decreases-loop
+returns : tie.Need-returns-then-text-comma invariant-loop decreases-loop
 returns c =
     let a = c.before.before.before.before.before.args in
-    let l = c.before.before.before.loop in
-    rest-past a.text.now a.k l.i l.start c.before.find.result l.invariant.2 c.before.find.ensures (omega arith) (omega arith) (omega arith)
+    let l = c.before.before.before.loop-i in
+    rest-past a.text.now a.k l.i l.start c.before.find-comma.result l.invariant.2 c.before.find-comma.ensures (omega arith) (omega arith) (omega arith)
 
-add_start : tie.Need-overflow-add-start invariant-loop decreases-loop
+add_start : tie.Need-overflow_add-start invariant-loop decreases-loop
 add_start c = search rules
 
-add-i : tie.Need-overflow-add-i invariant-loop decreases-loop
+add-i : tie.Need-overflow_add-i invariant-loop decreases-loop
 add-i c = search rules
 
-loop-less : tie.Need-loop-smaller invariant-loop decreases-loop
+loop-less : tie.Need-loop-i-smaller invariant-loop decreases-loop
 loop-less c = search rules
 
-loop-again : tie.Need-loop-preserved invariant-loop decreases-loop
+loop-again : tie.Need-loop-i-preserved invariant-loop decreases-loop
 loop-again c =
     let a = c.before.before.before.before.before.args in
-    let l = c.before.before.before.loop in
-    (omega arith, omega arith, rest-next a.text.now a.k l.i l.start c.before.find.result l.invariant.2 c.before.find.ensures (omega arith) (omega arith))
+    let l = c.before.before.before.loop-i in
+    (omega arith, omega arith, rest-next a.text.now a.k l.i l.start c.before.find-comma.result l.invariant.2 c.before.find-comma.ensures (omega arith) (omega arith))
 
-find-requires-2 : tie.Need-find-requires-2 invariant-loop decreases-loop
+find-requires-2 : tie.Need-find-requires invariant-loop decreases-loop
 find-requires-2 c κs = search rules
 
-returns-2 : tie.Need-returns-2 invariant-loop decreases-loop
+returns-2 : tie.Need-returns invariant-loop decreases-loop
 returns-2 c =
     let a = c.before.before.before.before.args in
-    let l = c.before.before.loop in
-    rest-here a.text.now a.k l.i l.start c.find2.result l.invariant.2 c.find2.ensures (omega arith)
+    let l = c.before.before.loop-i in
+    rest-here a.text.now a.k l.i l.start c.find.result l.invariant.2 c.find.ensures (omega arith)
 
-pub locate-spec : {M : Type 1} → statement M
-locate-spec =
+pub locate_spec : {M : Type 1} → statement M
+locate_spec =
     tie.close
     (tie.spec
     invariant-loop

@@ -10,11 +10,11 @@ use Rattle.transform.proofs.two.Tie as tie
 butterfly-requires : tie.Need-butterfly-requires
 butterfly-requires c κs = (c.before.requires.0, within_more c.before.args.a.now (omega arith) c.before.requires.1)
 
-same_length : tie.Need-same-length
+same_length : tie.Need-shape_of-a
 same_length c = search rules
 
 returns : tie.Need-returns
 returns c = let s = c.before.before.before in c.before.butterfly.ensures ∙ pair s.args.a.now s.requires.0
 
-pub two-spec : {M : Type 1} → statement M
-two-spec = tie.close (tie.spec butterfly-requires same_length returns)
+pub two_spec : {M : Type 1} → statement M
+two_spec = tie.close (tie.spec butterfly-requires same_length returns)
