@@ -3,7 +3,7 @@ ghost use Rattle.std.specs.Prelude.{◌≤◌, length};
 
 use crate::numbers;
 
-#[derive(Drop)]
+#[derive(Clone, Copy)]
 pub enum Call {
     Coefficient,
     Spectrum,
@@ -22,7 +22,7 @@ pub enum Call {
 
 // The call, and how much there is of everything: bytes of the text, numbers of the list, first and second arguments, lent numbers or bytes, lent
 // working numbers, bytes of what is due.
-#[derive(Drop)]
+#[derive(Clone, Copy)]
 pub struct CaseHead {
     pub call: Call,
     pub text: usize,

@@ -28,7 +28,7 @@ fn show(f: Fault, line: usize, v: bool) -> bool
 // `values` has what each line shows on each row: 58 columns of 256 values, 14,848 in all, with line i on row x at 256 * i + x.
 
 // What a line shows where 1 was applied or computed, and where 0 was.
-#[derive(Drop)]
+#[derive(Clone, Copy)]
 pub struct Seen {
     pub one: bool,
     pub zero: bool,

@@ -18,14 +18,14 @@ use netlist::{Circuit, Parsed};
 use tables::{ParsedTable, Table};
 
 // Which of the two a device is.
-#[derive(Drop)]
+#[derive(Clone, Copy)]
 pub enum Form {
     Gates,
     Marks,
 }
 
 // The circuit counts where the form is `Gates`, the table where it is `Marks`. An enum cannot hold arrays, so they stand beside it.
-#[derive(Drop)]
+#[derive(Clone, Copy)]
 pub struct Device {
     pub form: Form,
     pub inputs: usize,

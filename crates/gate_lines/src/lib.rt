@@ -12,7 +12,7 @@ use fields::number_unless;
 use kinds::Kind;
 
 // A gate and the lines that it reads: A, then B, C and D up to the first 0. `b` is 0 for `not`, `c` and `d` are 0 where there is no third or fourth line.
-#[derive(Drop)]
+#[derive(Clone, Copy)]
 pub struct Gate {
     pub kind: Kind,
     pub a: u16,

@@ -11,7 +11,7 @@ pub use parsing::parse;
 use statements::{Bridge, Fault, Head, Output, Pair};
 
 // Each array is in use as far as the head says.
-#[derive(Drop)]
+#[derive(Clone, Copy)]
 pub struct Circuit {
     pub head: Head,
     pub gates: [Gate; 48],

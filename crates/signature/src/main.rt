@@ -2,13 +2,14 @@
 #![tactic(auto)]
 
 ghost use Rattle.std.specs.Prelude.{◌≡◌, ◌+◌, ◌≤◌, length, take};
-ghost use Rattle.io.specs.Counts.{IsPrefixLen};
+ghost use Rattle.std.specs.Counts.{IsPrefixLen};
 ghost use Rattle.planner.specs.PlanCall.{working_numbers};
 ghost use Rattle.report_lines.specs.ReportLines.{report_bytes};
 ghost use Rattle.report.specs.ReportCall.{report_of};
 ghost use Rattle.text.specs.Text.{text_bytes};
 
-use libc::{STDIN_FILENO, STDOUT_FILENO};
+use std::io;
+use std::io::{Read, Write};
 
 // The report on the text, at the front of `out`, and how many bytes it has.
 fn written(text: &[u8], out: &mut [u8], work: &mut [u32]) -> usize
@@ -19,33 +20,44 @@ fn written(text: &[u8], out: &mut [u8], work: &mut [u32]) -> usize
     r.bytes
 }
 
+// Says on standard error why a stream failed. Where that fails too, nothing is left to say it on.
+fn tell(rt: &HostRuntime, stream: &str, error: io::Error) {
+    match eprintln!(rt; "signature: {stream}: {error}") {
+        Ok(()) => (),
+        Err(_) => (),
+    }
+}
+
 // Prints the report on a text, or says that it could not. It asks for that report, so that nothing else is printed.
-fn print(report: &[u8], text: &[u8])
+fn print(rt: &HostRuntime, report: &[u8], text: &[u8])
     requires { report.now ≡ report_of text.now }
 {
-    if !io::write_all(STDOUT_FILENO, report) {
-        os::fail(b"signature: standard output");
+    match rt.stdout().write_all(report) {
+        Ok(()) => (),
+        Err(e) => tell(rt, "standard output", e),
     }
 }
 
 // One read into `rest`, of at least one byte unless the input has ended. A read that fails is told and ends the input.
-fn read_some(rest: &mut [u8]) -> usize
+fn read_some(rt: &HostRuntime, rest: &mut [u8]) -> usize
     ensures { IsPrefixLen result rest.new }
 {
-    let got = libc::read(STDIN_FILENO, rest);
-    if got < 0 {
-        os::fail(b"signature: standard input");
+    match rt.stdin().read(rest) {
+        Ok(got) => got,
+        Err(e) => {
+            tell(rt, "standard input", e);
+            0
+        }
     }
-    io::count(got, rest)
 }
 
-// Reads until the input ends or `text` is full. The library's `io::read_full` does not tell an end from a failure.
-fn read_text(text: &mut [u8]) -> usize
+// Reads until the input ends or `text` is full.
+fn read_text(rt: &HostRuntime, text: &mut [u8]) -> usize
     ensures { IsPrefixLen result text.new }
 {
     let mut length = 0;
     while length < text.len() {
-        let more = read_some(&mut text[length..]);
+        let more = read_some(rt, &mut text[length..]);
         if more == 0 {
             break;
         }
@@ -55,18 +67,18 @@ fn read_text(text: &mut [u8]) -> usize
 }
 
 // Asks for room for one byte more than a text may have, and fills it, so that a longer input is refused by its length and never cut to a text that passes.
-fn answer(text: &mut [u8], out: &mut [u8], work: &mut [u32])
+fn answer(rt: &HostRuntime, text: &mut [u8], out: &mut [u8], work: &mut [u32])
     requires text_bytes_in_bounds { text_bytes + 1 ≤ length text.old }
     requires report_bytes_in_bounds { (report_bytes ≤ length out.old) × (working_numbers ≤ length work.old) }
 {
-    let length = read_text(text);
+    let length = read_text(rt, text);
     let bytes = written(&text[..length], out, work);
-    print(&out[..bytes], &text[..length]);
+    print(rt, &out[..bytes], &text[..length]);
 }
 
-fn main() {
+fn main(rt: HostRuntime) {
     let mut text = [0u8; text::TEXT_BYTES + 1];
     let mut out = [0u8; report::REPORT_BYTES];
     let mut work = [0u32; planner::WORKING_NUMBERS];
-    answer(&mut text, &mut out, &mut work);
+    answer(&rt, &mut text, &mut out, &mut work);
 }

@@ -12,28 +12,28 @@ ghost use Rattle.statements.specs.Lines.{head_refusal, head_of, output_refusal, 
 use fields::number_unless;
 
 // The weight is kept in a signed type, since fixtures may come to subtract outputs.
-#[derive(Drop)]
+#[derive(Clone, Copy)]
 pub struct Output {
     pub line: u16,
     pub weight: i16,
 }
 
 // LINE,VALUE: a stuck line and the value that it shows; line 0 is none.
-#[derive(Drop)]
+#[derive(Clone, Copy)]
 pub struct Pair {
     pub line: u16,
     pub value: bool,
 }
 
 // Two inputs that are joined; 0 and 0 where there is no bridge.
-#[derive(Drop)]
+#[derive(Clone, Copy)]
 pub struct Bridge {
     pub first: u16,
     pub second: u16,
 }
 
 // One to three stuck lines, which hold together, or one bridge.
-#[derive(Drop)]
+#[derive(Clone, Copy)]
 pub struct Fault {
     pub first: Pair,
     pub second: Pair,
@@ -42,7 +42,7 @@ pub struct Fault {
 }
 
 // The numbers of the first line.
-#[derive(Drop)]
+#[derive(Clone, Copy)]
 pub struct Head {
     pub inputs: usize,
     pub gates: usize,
@@ -70,7 +70,7 @@ pub struct FaultLine {
 }
 
 // LINE,VALUE as the fields have them.
-#[derive(Drop)]
+#[derive(Clone, Copy)]
 struct PairFields {
     line: u16,
     value: u16,

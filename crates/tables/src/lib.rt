@@ -10,7 +10,7 @@ pub use parsing::{is_table, no_table, parse};
 use statements::{Bridge, Fault, Pair};
 
 // The numbers of the first line.
-#[derive(Drop)]
+#[derive(Clone, Copy)]
 pub struct TableHead {
     pub inputs: usize,
     pub faults: usize,
@@ -18,7 +18,7 @@ pub struct TableHead {
 }
 
 // The marks are doubled, one for each row: 0, 1 for a free row, 2. Each array is in use as far as the head says.
-#[derive(Drop)]
+#[derive(Clone, Copy)]
 pub struct Table {
     pub head: TableHead,
     pub marks: [u8; 256],

@@ -22,10 +22,12 @@
 #![tactic(auto)]
 
 ghost use Rattle.std.specs.Prelude.{◌≤◌};
+ghost use Rattle.std.specs.Counts.{IsPrefixLen};
 
 use cases::heads::{Call, CaseHead};
 use cases::numbers::argument;
-use libc::{STDIN_FILENO, STDOUT_FILENO};
+use std::io;
+use std::io::Read;
 
 // The sums of a pair.
 fn three(list: &[i32]) -> [i32; 3] {
@@ -149,14 +151,29 @@ fn case_holds(h: CaseHead, case: &[u8]) -> bool {
     numbers_hold(h, &case[..t], &case[t..])
 }
 
+// Reads until `space` is full, the input ends or a read fails, and says how many bytes it put there.
+fn read_full(rt: &HostRuntime, space: &mut [u8]) -> usize
+    ensures { IsPrefixLen result space.new }
+{
+    let mut done = 0;
+    while done < space.len() {
+        let more = rt.stdin().read(&mut space[done..]).unwrap_or(0);
+        if more == 0 {
+            break;
+        }
+        done += more;
+    }
+    done
+}
+
 // Reads the case that the head says, and tries it.
-fn next_holds(head: &[u8; 54], space: &mut [u8]) -> bool {
+fn next_holds(rt: &HostRuntime, head: &[u8; 54], space: &mut [u8]) -> bool {
     let h = cases::heads::read(head);
     let size = h.text + 12 * (h.list + h.first + h.second) + h.due;
     if space.len() < size {
         return false;
     }
-    if io::read_full(STDIN_FILENO, &mut space[..size]) != size {
+    if read_full(rt, &mut space[..size]) != size {
         return false;
     }
     case_holds(h, &space[..size])
@@ -175,25 +192,22 @@ fn one_unless(b: bool) -> u64
     if b { 0 } else { 1 }
 }
 
-fn try_all(space: &mut [u8]) -> Tally {
+fn try_all(rt: &HostRuntime, space: &mut [u8]) -> Tally {
     let mut cases: u64 = 0;
     let mut wrong: u64 = 0;
     while cases < 1000000 {
         let mut head = [0u8; 54];
-        if io::read_full(STDIN_FILENO, &mut head) == 0 {
+        if read_full(rt, &mut head) == 0 {
             break;
         }
-        wrong += one_unless(next_holds(&head, space));
+        wrong += one_unless(next_holds(rt, &head, space));
         cases += 1;
     }
     Tally { cases, wrong }
 }
 
-fn main() {
+fn main(rt: HostRuntime) -> io::Result<()> {
     let mut space = [0u8; 67000];
-    let t = try_all(&mut space);
-    io::print_decimal(STDOUT_FILENO, t.cases);
-    io::write_all(STDOUT_FILENO, b" cases, ");
-    io::print_decimal(STDOUT_FILENO, t.wrong);
-    io::write_all(STDOUT_FILENO, b" differ\n");
+    let t = try_all(&rt, &mut space);
+    println!(rt; "{} cases, {} differ", t.cases, t.wrong)
 }
