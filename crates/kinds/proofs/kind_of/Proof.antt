@@ -4,74 +4,59 @@ use Rattle.kinds.specs.Kinds.{kind_of}
 use Rattle.kinds.proofs.kind_of.Statement.{statement}
 use Rattle.kinds.proofs.kind_of.Tie as tie
 
-slice-aggregate-same : tie.Need-slice-aggregate-same
-slice-aggregate-same c = search rules
-
 same-requires : tie.Need-same-requires
 same-requires c κs = search rules
 
-returns : tie.Need-returns
+returns : tie.Need-returns-then-same
 unfolding kind_of
-returns c = simp (sym c.before.same.ensures ∙ c.if1.true)
-
-slice-aggregate-same-2 : tie.Need-slice-aggregate-same-2
-slice-aggregate-same-2 c = search rules
+returns c = simp (sym c.before.same.ensures ∙ c.if-same.true)
 
 same-requires-2 : tie.Need-same-requires-2
 same-requires-2 c κs = search rules
 
-returns-2 : tie.Need-returns-2
+returns-2 : tie.Need-returns-then-same-2
 unfolding kind_of
 returns-2 c =
     let at_and = c.before.before.before in
     simp (
-      sym at_and.before.same.ensures ∙ at_and.if1.false,
-      sym c.before.same2.ensures ∙ c.if2.true,
+      sym at_and.before.same.ensures ∙ at_and.if-same.false,
+      sym c.before.same-2.ensures ∙ c.if-same-2.true,
     )
-
-slice-aggregate-same-3 : tie.Need-slice-aggregate-same-3
-slice-aggregate-same-3 c = search rules
 
 same-requires-3 : tie.Need-same-requires-3
 same-requires-3 c κs = search rules
 
-returns-3 : tie.Need-returns-3
+returns-3 : tie.Need-returns-then-same-3
 unfolding kind_of
 returns-3 c =
     let at_or = c.before.before.before in
     let at_and = at_or.before.before.before in
     simp (
-      sym at_and.before.same.ensures ∙ at_and.if1.false,
-      sym at_or.before.same2.ensures ∙ at_or.if2.false,
-      sym c.before.same3.ensures ∙ c.if3.true,
+      sym at_and.before.same.ensures ∙ at_and.if-same.false,
+      sym at_or.before.same-2.ensures ∙ at_or.if-same-2.false,
+      sym c.before.same-3.ensures ∙ c.if-same-3.true,
     )
-
-slice-aggregate-same-4 : tie.Need-slice-aggregate-same-4
-slice-aggregate-same-4 c = search rules
 
 same-requires-4 : tie.Need-same-requires-4
 same-requires-4 c κs = search rules
 
-returns-4 : tie.Need-returns-4
+returns-4 : tie.Need-returns-then-same-4
 unfolding kind_of
 returns-4 c =
     let at_nand = c.before.before.before in
     let at_or = at_nand.before.before.before in
     let at_and = at_or.before.before.before in
     simp (
-      sym at_and.before.same.ensures ∙ at_and.if1.false,
-      sym at_or.before.same2.ensures ∙ at_or.if2.false,
-      sym at_nand.before.same3.ensures ∙ at_nand.if3.false,
-      sym c.before.same4.ensures ∙ c.if4.true,
+      sym at_and.before.same.ensures ∙ at_and.if-same.false,
+      sym at_or.before.same-2.ensures ∙ at_or.if-same-2.false,
+      sym at_nand.before.same-3.ensures ∙ at_nand.if-same-3.false,
+      sym c.before.same-4.ensures ∙ c.if-same-4.true,
     )
-
-slice-aggregate-same-5 : tie.Need-slice-aggregate-same-5
-slice-aggregate-same-5 c = search rules
 
 same-requires-5 : tie.Need-same-requires-5
 same-requires-5 c κs = search rules
 
-returns-5 : tie.Need-returns-5
+returns-5 : tie.Need-returns-then-same-5
 unfolding kind_of
 returns-5 c =
     let at_nor = c.before.before.before in
@@ -79,20 +64,17 @@ returns-5 c =
     let at_or = at_nand.before.before.before in
     let at_and = at_or.before.before.before in
     simp (
-      sym at_and.before.same.ensures ∙ at_and.if1.false,
-      sym at_or.before.same2.ensures ∙ at_or.if2.false,
-      sym at_nand.before.same3.ensures ∙ at_nand.if3.false,
-      sym at_nor.before.same4.ensures ∙ at_nor.if4.false,
-      sym c.before.same5.ensures ∙ c.if5.true,
+      sym at_and.before.same.ensures ∙ at_and.if-same.false,
+      sym at_or.before.same-2.ensures ∙ at_or.if-same-2.false,
+      sym at_nand.before.same-3.ensures ∙ at_nand.if-same-3.false,
+      sym at_nor.before.same-4.ensures ∙ at_nor.if-same-4.false,
+      sym c.before.same-5.ensures ∙ c.if-same-5.true,
     )
-
-slice-aggregate-same-6 : tie.Need-slice-aggregate-same-6
-slice-aggregate-same-6 c = search rules
 
 same-requires-6 : tie.Need-same-requires-6
 same-requires-6 c κs = search rules
 
-returns-6 : tie.Need-returns-6
+returns-6 : tie.Need-returns-then-same-6
 unfolding kind_of
 returns-6 c =
     let at_xor = c.before.before.before in
@@ -101,15 +83,15 @@ returns-6 c =
     let at_or = at_nand.before.before.before in
     let at_and = at_or.before.before.before in
     simp (
-      sym at_and.before.same.ensures ∙ at_and.if1.false,
-      sym at_or.before.same2.ensures ∙ at_or.if2.false,
-      sym at_nand.before.same3.ensures ∙ at_nand.if3.false,
-      sym at_nor.before.same4.ensures ∙ at_nor.if4.false,
-      sym at_xor.before.same5.ensures ∙ at_xor.if5.false,
-      sym c.before.same6.ensures ∙ c.if6.true,
+      sym at_and.before.same.ensures ∙ at_and.if-same.false,
+      sym at_or.before.same-2.ensures ∙ at_or.if-same-2.false,
+      sym at_nand.before.same-3.ensures ∙ at_nand.if-same-3.false,
+      sym at_nor.before.same-4.ensures ∙ at_nor.if-same-4.false,
+      sym at_xor.before.same-5.ensures ∙ at_xor.if-same-5.false,
+      sym c.before.same-6.ensures ∙ c.if-same-6.true,
     )
 
-returns-7 : tie.Need-returns-7
+returns-7 : tie.Need-returns
 unfolding kind_of
 returns-7 c =
     let at_xor = c.before.before.before in
@@ -118,34 +100,28 @@ returns-7 c =
     let at_or = at_nand.before.before.before in
     let at_and = at_or.before.before.before in
     simp (
-      sym at_and.before.same.ensures ∙ at_and.if1.false,
-      sym at_or.before.same2.ensures ∙ at_or.if2.false,
-      sym at_nand.before.same3.ensures ∙ at_nand.if3.false,
-      sym at_nor.before.same4.ensures ∙ at_nor.if4.false,
-      sym at_xor.before.same5.ensures ∙ at_xor.if5.false,
-      sym c.before.same6.ensures ∙ c.if6.false,
+      sym at_and.before.same.ensures ∙ at_and.if-same.false,
+      sym at_or.before.same-2.ensures ∙ at_or.if-same-2.false,
+      sym at_nand.before.same-3.ensures ∙ at_nand.if-same-3.false,
+      sym at_nor.before.same-4.ensures ∙ at_nor.if-same-4.false,
+      sym at_xor.before.same-5.ensures ∙ at_xor.if-same-5.false,
+      sym c.before.same-6.ensures ∙ c.if-same-6.false,
     )
 
-pub kind-of-spec : {M : Type 1} → statement M
-kind-of-spec =
+pub kind_of_spec : {M : Type 1} → statement M
+kind_of_spec =
     tie.close
     (tie.spec
-    slice-aggregate-same
     same-requires
     returns
-    slice-aggregate-same-2
     same-requires-2
     returns-2
-    slice-aggregate-same-3
     same-requires-3
     returns-3
-    slice-aggregate-same-4
     same-requires-4
     returns-4
-    slice-aggregate-same-5
     same-requires-5
     returns-5
-    slice-aggregate-same-6
     same-requires-6
     returns-6
     returns-7)

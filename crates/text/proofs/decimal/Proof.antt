@@ -33,7 +33,7 @@ returns-3 c = sym (number-zero c.before.before.before.before.before.args.s.now c
 loop-holds : tie.Need-loop-i-init invariant-loop decreases-loop
 loop-holds c =
     let s = c.before.before.before.args.s.now in
-    (search rules, lit< tt, number_digits s (omega arith) (omega arith) (⊎_elim (λ w. inr w.2.left) (λ w. inl (omega arith)) c.if-n-gt1.branch))
+    (search rules, lit< tt, number_digits s (omega arith) (omega arith) (⊎_elim (λ w. inr w.if-s-eq48.false) (λ w. inl (omega arith)) c.if-n-gt1.branch-raw))
 
 shared-slice-read-x : tie.Need-bounds-s-i invariant-loop decreases-loop
 shared-slice-read-x c = search rules

@@ -19,13 +19,13 @@ part-result-end : tie.Need-slice_bounds-result-end
 part-result-end c =
     let a = c.before.before.args in
     let s = c.locate-s in
-    span-within a.text.now a.k s.result-1.start s.result-1.end s.ensures.0 s.ensures.1
+    span-within a.text.now a.k s.result.start s.result.end s.ensures.0 s.ensures.1
 
 returns : tie.Need-returns
 returns c =
     let a = c.before.before.before.args in
     let s = c.before.locate-s in
-    (span-field a.text.now a.k s.result-1.start s.result-1.end s.ensures.0 s.ensures.1, ap (λ n. further n a.text.ref_ptr) s.ensures.0)
+    (span-field a.text.now a.k s.result.start s.result.end s.ensures.0 s.ensures.1, ap (λ n. further n a.text.ref_ptr) s.ensures.0)
 
 pub field_spec : {M : Type 1} → statement M
 field_spec =

@@ -36,9 +36,9 @@ loop-again c =
     let a = c.before.before.before.before.args in
     let i = c.before.before.before.loop-i.i in
     ⊎_elim
-    (λ w. omega (arith, count-hit a.text.now i (omega arith) w.0.taken))
-    (λ w. omega (arith, count-miss a.text.now i (omega arith) w.0.left))
-    c.if-text-i-eq44.branch
+    (λ w. omega (arith, count-hit a.text.now i (omega arith) w.if-text-i-eq44.true))
+    (λ w. omega (arith, count-miss a.text.now i (omega arith) w.if-text-i-eq44.false))
+    c.if-text-i-eq44.branch-raw
 
 returns : tie.Need-returns invariant-loop decreases-loop
 returns c = omega (arith, count-end c.before.before.args.text.now c.before.loop-i.i (omega arith))

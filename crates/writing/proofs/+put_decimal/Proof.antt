@@ -21,95 +21,95 @@ abbrev put-decimal-below : ℕ → In 1 put-decimal-kinds.ps
 put-decimal-below t =
     and 1 put-decimal-kinds.ps (falls 1 put-decimal-kinds.ps ◌<◌ μ-put-decimal t) put-decimal.Pre
 
-put-decimal-cast-last : (t : ℕ) → put-decimal-lts.Need-overflow-cast-last (
+put-decimal-cast-last : (t : ℕ) → put-decimal-lts.Need-overflow_cast-last (
   put-decimal-below t,
   put-decimal.Post,
 ) (put-decimal-at t) put-decimal.Post
 put-decimal-cast-last t c = search rules
 
-put-decimal-add-last : (t : ℕ) → put-decimal-lts.Need-overflow-add-last (
+put-decimal-add-last : (t : ℕ) → put-decimal-lts.Need-overflow_add-last (
   put-decimal-below t,
   put-decimal.Post,
 ) (put-decimal-at t) put-decimal.Post
 put-decimal-add-last t c = search rules
 
-put-decimal-slice-write-out : (t : ℕ) → put-decimal-lts.Need-slice-write-out (
+put-decimal-slice-write-out : (t : ℕ) → put-decimal-lts.Need-bounds-out-at (
   put-decimal-below t,
   put-decimal.Post,
 ) (put-decimal-at t) put-decimal.Post
 put-decimal-slice-write-out t c =
     let b = c.before.before in
-    one-room b.args.at b.args.n b.args.out.now b.requires.1 c.if1.true
+    one-room b.args.at b.args.n b.args.out.now b.requires.1 c.if-n-lt10.true
 
-put-decimal-add-result : (t : ℕ) → put-decimal-lts.Need-overflow-add-result (
+put-decimal-add-result : (t : ℕ) → put-decimal-lts.Need-overflow_add-result (
   put-decimal-below t,
   put-decimal.Post,
 ) (put-decimal-at t) put-decimal.Post
 put-decimal-add-result t c = search rules
 
-put-decimal-same-length : (t : ℕ) → put-decimal-lts.Need-same-length (
+put-decimal-same-length : (t : ℕ) → put-decimal-lts.Need-shape_of-out-then-n-lt10 (
   put-decimal-below t,
   put-decimal.Post,
 ) (put-decimal-at t) put-decimal.Post
 put-decimal-same-length t c = search rules
 
-put-decimal-returns : (t : ℕ) → put-decimal-lts.Need-returns (
+put-decimal-returns : (t : ℕ) → put-decimal-lts.Need-returns-then-n-lt10 (
   put-decimal-below t,
   put-decimal.Post,
 ) (put-decimal-at t) put-decimal.Post
 put-decimal-returns t c =
     let b = c.before.before in
     let a = b.args in
-    (one_end a.at a.n a.out.now b.requires.1 c.if1.true, one_written a.at a.n a.out.now b.requires.1 c.if1.true)
+    (one_end a.at a.n a.out.now b.requires.1 c.if-n-lt10.true, one_written a.at a.n a.out.now b.requires.1 c.if-n-lt10.true)
 
-put-decimal-put-decimal-requires : (t : ℕ) → put-decimal-lts.Need-put-decimal-requires (
+put-decimal-put-decimal-requires : (t : ℕ) → put-decimal-lts.Need-put_decimal-end-requires (
   put-decimal-below t,
   put-decimal.Post,
 ) (put-decimal-at t) put-decimal.Post
 put-decimal-put-decimal-requires t c κs =
     let b = c.before.before.before in
     let a = b.args in
-    let h = tenth-room a.at a.n a.out.now b.requires.1 c.before.if1.false in
-    (omega (arith, b.requires.0, c.before.if1.false), omega (arith, h))
+    let h = tenth-room a.at a.n a.out.now b.requires.1 c.before.if-n-lt10.false in
+    (omega (arith, b.requires.0, c.before.if-n-lt10.false), omega (arith, h))
 
-put-decimal-slice-write-out-2 : (t : ℕ) → put-decimal-lts.Need-slice-write-out-2 (
+put-decimal-slice-write-out-2 : (t : ℕ) → put-decimal-lts.Need-bounds-out-end (
   put-decimal-below t,
   put-decimal.Post,
 ) (put-decimal-at t) put-decimal.Post
 put-decimal-slice-write-out-2 t c =
     let b = c.before.before.before.before.before.before in
     let a = b.args in
-    let r = c.before.before.put-decimal in
-    last-room a.at a.n a.out.now b.requires.1 c.before.before.before.before.if1.false r.new.0 r.result r.ensures.1 r.ensures.0
+    let r = c.before.before.put_decimal-end in
+    last-room a.at a.n a.out.now b.requires.1 c.before.before.before.before.if-n-lt10.false r.new.out r.result r.ensures.1 r.ensures.0
 
-put-decimal-add-result-2 : (t : ℕ) → put-decimal-lts.Need-overflow-add-result-2 (
+put-decimal-add-result-2 : (t : ℕ) → put-decimal-lts.Need-overflow_add-result-2 (
   put-decimal-below t,
   put-decimal.Post,
 ) (put-decimal-at t) put-decimal.Post
 put-decimal-add-result-2 t c =
     let b = c.before.before.before.before.before.before in
     let a = b.args in
-    let r = c.before.before.put-decimal in
-    let h = last-room a.at a.n a.out.now b.requires.1 c.before.before.before.before.if1.false r.new.0 r.result r.ensures.1 r.ensures.0 in search rules
+    let r = c.before.before.put_decimal-end in
+    let h = last-room a.at a.n a.out.now b.requires.1 c.before.before.before.before.if-n-lt10.false r.new.out r.result r.ensures.1 r.ensures.0 in search rules
 
-put-decimal-same-length-2 : (t : ℕ) → put-decimal-lts.Need-same-length-2 (
+put-decimal-same-length-2 : (t : ℕ) → put-decimal-lts.Need-shape_of-out (
   put-decimal-below t,
   put-decimal.Post,
 ) (put-decimal-at t) put-decimal.Post
 put-decimal-same-length-2 t c = search rules
 
-put-decimal-returns-2 : (t : ℕ) → put-decimal-lts.Need-returns-2 (
+put-decimal-returns-2 : (t : ℕ) → put-decimal-lts.Need-returns (
   put-decimal-below t,
   put-decimal.Post,
 ) (put-decimal-at t) put-decimal.Post
 put-decimal-returns-2 t c =
     let b = c.before.before.before.before.before.before in
     let a = b.args in
-    let r = c.before.before.put-decimal in
-    (last_end a.at a.n a.out.now b.requires.1 c.before.before.before.before.if1.false r.new.0 r.result r.ensures.1 r.ensures.0, last_written a.at a.n a.out.now b.requires.1 c.before.before.before.before.if1.false r.new.0 r.result r.ensures.1 r.ensures.0)
+    let r = c.before.before.put_decimal-end in
+    (last_end a.at a.n a.out.now b.requires.1 c.before.before.before.before.if-n-lt10.false r.new.out r.result r.ensures.1 r.ensures.0, last_written a.at a.n a.out.now b.requires.1 c.before.before.before.before.if-n-lt10.false r.new.out r.result r.ensures.1 r.ensures.0)
 
-pub +put-decimal-spec : {M : Type 1} → statement M
-+put-decimal-spec = close μ-put-decimal λ t. put-decimal-lts.spec (
+pub +put_decimal_spec : {M : Type 1} → statement M
++put_decimal_spec = close μ-put-decimal λ t. put-decimal-lts.spec (
   put-decimal-below t,
   put-decimal.Post,
 )

@@ -31,53 +31,53 @@ module _ (at : ℕ) (bytes out now : List ℕ) (i : ℕ) (fits : at + length byt
         next : (n : ℕ) → suc n ≡ n + 1
         next n = omega arith
 
-abbrev invariant-loop : tie.invariant-loop
+abbrev invariant-loop : tie.invariant-loop-i
 invariant-loop out₀ at bytes i₀ out i = (i ≤ length bytes) × (out ≡ placed at (take i bytes) out₀)
 
-abbrev decreases-loop : tie.decreases-loop
+abbrev decreases-loop : tie.decreases-loop-i
 decreases-loop out₀ at bytes i₀ out i = length bytes - i
 
-loop-holds : tie.Need-loop-init invariant-loop decreases-loop
+loop-holds : tie.Need-loop-i-init invariant-loop decreases-loop
 loop-holds c = (omega arith, sym (placed-none c.args.at c.args.out.now))
 
-shared-slice-read-b : tie.Need-shared-slice-read-b invariant-loop decreases-loop
+shared-slice-read-b : tie.Need-bounds-bytes-i invariant-loop decreases-loop
 shared-slice-read-b c = search rules
 
-add-out : tie.Need-overflow-add-out invariant-loop decreases-loop
+add-out : tie.Need-overflow_add-out invariant-loop decreases-loop
 add-out c = search rules
 
-slice-write-out : tie.Need-slice-write-out invariant-loop decreases-loop
+slice-write-out : tie.Need-bounds-out-at invariant-loop decreases-loop
 slice-write-out c =
     let a = c.before.before.before.args in
-    let l = c.before.before.loop in
-    room a.at a.bytes.now a.out.now l.out l.i c.before.before.before.requires c.before.loop-test.true l.invariant.1
+    let l = c.before.before.loop-i in
+    room a.at a.bytes.now a.out.now l.out l.i c.before.before.before.requires c.before.loop-i-test.true l.invariant.1
 
-add-i : tie.Need-overflow-add-i invariant-loop decreases-loop
+add-i : tie.Need-overflow_add-i invariant-loop decreases-loop
 add-i c = search rules
 
-loop-less : tie.Need-loop-smaller invariant-loop decreases-loop
+loop-less : tie.Need-loop-i-smaller invariant-loop decreases-loop
 loop-less c = search rules
 
-loop-again : tie.Need-loop-preserved invariant-loop decreases-loop
+loop-again : tie.Need-loop-i-preserved invariant-loop decreases-loop
 loop-again c =
     let a = c.before.before.before.args in
-    let l = c.before.before.loop in
-    (omega (arith, c.before.loop-test.true), more a.at a.bytes.now a.out.now l.out l.i c.before.before.before.requires c.before.loop-test.true l.invariant.1)
+    let l = c.before.before.loop-i in
+    (omega (arith, c.before.loop-i-test.true), more a.at a.bytes.now a.out.now l.out l.i c.before.before.before.requires c.before.loop-i-test.true l.invariant.1)
 
-add-result : tie.Need-overflow-add-result invariant-loop decreases-loop
+add-result : tie.Need-overflow_add-result invariant-loop decreases-loop
 add-result c = search rules
 
-same_length : tie.Need-same-length invariant-loop decreases-loop
+same_length : tie.Need-shape_of-out invariant-loop decreases-loop
 same_length c =
     let a = c.before.before.args in
-    let l = c.before.loop in
+    let l = c.before.loop-i in
     ap length l.invariant.1 ∙ length-placed a.at (take l.i a.bytes.now) a.out.now (front a.at a.bytes.now a.out.now l.out l.i c.before.before.requires l.invariant.0)
 
 returns : tie.Need-returns invariant-loop decreases-loop
 returns c =
     let a = c.before.before.args in
-    let l = c.before.loop in
-    let e : l.i ≡ length a.bytes.now = omega (arith, l.invariant.0, c.loop-test.false) in
+    let l = c.before.loop-i in
+    let e : l.i ≡ length a.bytes.now = omega (arith, l.invariant.0, c.loop-i-test.false) in
     (ap (λ (k : ℕ). a.at + k) e, l.invariant.1 ∙ ap (λ (x : List ℕ). placed a.at x a.out.now) (ap (λ (k : ℕ). take k a.bytes.now) e ∙ take-length a.bytes.now))
 
 pub put_spec : {M : Type 1} → statement M

@@ -13,88 +13,88 @@ use Rattle.writing.proofs.Writings.{WrittenSoFar, none_written, as_long, text-ro
 use Rattle.writing.proofs.put_numbers.Statement.{statement}
 use Rattle.writing.proofs.put_numbers.Tie as tie
 
-abbrev invariant-loop : tie.invariant-loop
+abbrev invariant-loop : tie.invariant-loop-i
 invariant-loop out₀ at numbers end₀ i₀ out end i = WrittenSoFar at (number_field numbers) (length numbers) out₀ i out end
 
-abbrev decreases-loop : tie.decreases-loop
+abbrev decreases-loop : tie.decreases-loop-i
 decreases-loop out₀ at numbers end₀ i₀ out end i = length numbers - i
 
-loop-holds : tie.Need-loop-init invariant-loop decreases-loop
+loop-holds : tie.Need-loop-i-init invariant-loop decreases-loop
 unfolding numbers_of
 loop-holds c =
     let a = c.before.args in
     none_written a.at (number_field a.numbers.now) (length a.numbers.now) a.out.now c.before.requires
 
-mul-z : tie.Need-overflow-mul-z invariant-loop decreases-loop
+mul-z : tie.Need-offset_bounds-numbers-i invariant-loop decreases-loop
 mul-z c = search rules
 
-shared-slice-copy-out-z : tie.Need-shared-slice-copy-out-z invariant-loop decreases-loop
+shared-slice-copy-out-z : tie.Need-bounds-numbers-i invariant-loop decreases-loop
 shared-slice-copy-out-z c = search rules
 
 -- the next number has room
-room : (t : tie.In-loop invariant-loop decreases-loop) → t.before.loop.end + length (number_field t.before.before.before.args.numbers.now t.before.loop.i) ≤ length t.before.loop.out
+room : (t : tie.In-loop-i invariant-loop decreases-loop) → t.before.loop-i.end + length (number_field t.before.before.before.args.numbers.now t.before.loop-i.i) ≤ length t.before.loop-i.out
 unfolding numbers_of
 room t =
     let a = t.before.before.before.args in
-    text-room a.at (number_field a.numbers.now) (length a.numbers.now) a.out.now t.before.before.before.requires t.before.loop.invariant t.loop-test.true
+    text-room a.at (number_field a.numbers.now) (length a.numbers.now) a.out.now t.before.before.before.requires t.before.loop-i.invariant t.loop-i-test.true
 
-slice-write-out : tie.Need-slice-write-out invariant-loop decreases-loop
+slice-write-out : tie.Need-bounds-out-end invariant-loop decreases-loop
 slice-write-out c =
-    let l = c.before.before.loop in
+    let l = c.before.before.loop-i in
     comma-room c.before.before.before.before.args.numbers.now l.i l.out l.end (room c.before)
 
-add-put-integer : tie.Need-overflow-add-put-integer invariant-loop decreases-loop
+add-put-integer : tie.Need-overflow_add-end invariant-loop decreases-loop
 unfolding numbers_of
 add-put-integer c =
     let b = c.before.before.before.before.before in
     let a = b.args in
-    let l = c.before.before.before.loop in
+    let l = c.before.before.before.loop-i in
     let h = comma-room a.numbers.now l.i l.out l.end (room c.before.before) in
     let n = as_long a.at (number_field a.numbers.now) (length a.numbers.now) a.out.now b.requires l.invariant in
     let k : l.end < length a.out.now = omega (arith, h, n) in
     search rules
 
-put-integer-requires : tie.Need-put-integer-requires invariant-loop decreases-loop
+put-integer-requires : tie.Need-put_integer-end-requires invariant-loop decreases-loop
 put-integer-requires c κs =
     let a = c.before.before.before.before.before.args in
-    let l = c.before.before.before.loop in
-    let e = ap length (ap integer_of (to_z-of_z w32 (nth a.numbers.now l.i) (record { sfits = c.before.z.given }))) in
+    let l = c.before.before.before.loop-i in
+    let e = ap length (ap integer_of (to_z-of_z w32 (nth a.numbers.now l.i) (record { sfits = c.before.z-1.given }))) in
     let h = number-room a.numbers.now l.i l.out l.end (room c.before.before) in
     omega (arith, e, h)
 
-add-i : tie.Need-overflow-add-i invariant-loop decreases-loop
+add-i : tie.Need-overflow_add-i invariant-loop decreases-loop
 add-i c = search rules
 
-loop-less : tie.Need-loop-smaller invariant-loop decreases-loop
+loop-less : tie.Need-loop-i-smaller invariant-loop decreases-loop
 loop-less c = search rules
 
-loop-again : tie.Need-loop-preserved invariant-loop decreases-loop
+loop-again : tie.Need-loop-i-preserved invariant-loop decreases-loop
 unfolding numbers_of
 loop-again c =
     let b = c.before.before.before.before.before.before.before.before in
     let a = b.args in
-    let l = c.before.before.before.before.before.before.loop in
+    let l = c.before.before.before.before.before.before.loop-i in
     let s = c.before.before.before.before.before in
-    let r = c.before.before.put-integer in
-    let e = ap integer_of (to_z-of_z w32 (nth a.numbers.now l.i) (record { sfits = c.before.before.before.before.z.given })) in
-    text-more a.at (number_field a.numbers.now) (length a.numbers.now) a.out.now b.requires l.invariant s.loop-test.true
+    let r = c.before.before.put_integer-end in
+    let e = ap integer_of (to_z-of_z w32 (nth a.numbers.now l.i) (record { sfits = c.before.before.before.before.z-1.given })) in
+    text-more a.at (number_field a.numbers.now) (length a.numbers.now) a.out.now b.requires l.invariant s.loop-i-test.true
     (number-written a.numbers.now l.i l.out l.end (room s)
     (r.ensures.0 ∙ ap (λ (x : List ℕ). l.end + 1 + length x) e, r.ensures.1 ∙ ap (λ (x : List ℕ). placed (l.end + 1) x (set l.out l.end comma)) e))
 
-same_length : tie.Need-same-length invariant-loop decreases-loop
+same_length : tie.Need-shape_of-out invariant-loop decreases-loop
 unfolding numbers_of
 same_length c =
     let b = c.before.before.before in
-    as_long b.args.at (number_field b.args.numbers.now) (length b.args.numbers.now) b.args.out.now b.requires c.before.loop.invariant
+    as_long b.args.at (number_field b.args.numbers.now) (length b.args.numbers.now) b.args.out.now b.requires c.before.loop-i.invariant
 
 returns : tie.Need-returns invariant-loop decreases-loop
 unfolding numbers_of
 returns c =
     let b = c.before.before.before in
-    all-written b.args.at (number_field b.args.numbers.now) (length b.args.numbers.now) b.args.out.now b.requires c.before.loop.invariant c.loop-test.false
+    all-written b.args.at (number_field b.args.numbers.now) (length b.args.numbers.now) b.args.out.now b.requires c.before.loop-i.invariant c.loop-i-test.false
 
-pub put-numbers-spec : {M : Type 1} → statement M
-put-numbers-spec =
+pub put_numbers_spec : {M : Type 1} → statement M
+put_numbers_spec =
     tie.close
     (tie.spec
     invariant-loop
