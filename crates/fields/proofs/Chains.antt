@@ -36,6 +36,7 @@ RisingTests high last [] = last ≤ high
 RisingTests high last (t ∷ rest) = (last < t.0) × RisingTests high t.0 rest
 
 fails-above : (high last : ℕ) (tests : List (ℕ × Bool)) (k : ℕ) → RisingTests high last tests → Fails tests k → last < k
+fails-above high last [] k r f = elim f [ ]
 fails-above high last (t ∷ rest) k r (inl f) = omega (arith, r.0, f.0)
 fails-above high last (t ∷ rest) k r (inr f) = omega (arith, r.0, fails-above high t.0 rest k r.1 f)
 

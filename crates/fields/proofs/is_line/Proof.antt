@@ -8,9 +8,9 @@ use Rattle.fields.proofs.is_line.Tie as tie
 fields-requires : tie.Need-fields-requires
 fields-requires c κs = search rules
 
-returns : tie.Need-returns
+returns : tie.Need-returns-then-fields
 unfolding is_line
-returns c = simp (sym c.before.fields.ensures, ne_eqb _ _ c.if1.true)
+returns c = simp (sym c.fields.ensures, ne_eqb _ _ c.if-fields.true)
 
 field-requires : tie.Need-field-requires
 field-requires c κs = search rules
@@ -21,17 +21,17 @@ same-requires c κs = search rules
 numbers-requires : tie.Need-numbers-requires
 numbers-requires c κs = search rules
 
-returns-2 : tie.Need-returns-2
+returns-2 : tie.Need-returns
 unfolding is_line
 returns-2 c = simp (
-  sym c.before.before.before.before.fields.ensures,
-  eq-eqb _ _ c.before.before.before.if1.false,
-  sym c.before.before.field.ensures.0,
-  sym c.before.same.ensures,
+  sym c.fields.ensures,
+  eq-eqb _ _ c.if-fields.false,
+  sym c.field.ensures.0,
+  sym c.same.ensures,
   sym c.numbers.ensures,
 )
 
-pub is-line-spec : {M : Type 1} → statement M
-is-line-spec =
+pub is_line_spec : {M : Type 1} → statement M
+is_line_spec =
     tie.close
     (tie.spec fields-requires returns field-requires same-requires numbers-requires returns-2)

@@ -10,22 +10,22 @@ field-requires c κs = search rules
 decimal-requires : tie.Need-decimal-requires
 decimal-requires c κs = search rules
 
-enum-known-v : tie.Need-enum-known-v
+enum-known-v : tie.Need-enum_known-v
 enum-known-v c = search rules
 
-enum_told : tie.Need-enum-told
+enum_told : tie.Need-enum_told-1
 enum_told c = search rules
 
-returns : tie.Need-returns
+returns : tie.Need-returns-in-Value
 returns c =
-    let a = c.before.before.before.before.before.before.args in
-    value-good a.line.now a.k c.before.v.given.0.0 (rw (← c.before.before.before.before.field.ensures.0, ← c.before.before.before.decimal.ensures) c.before.v.given.1)
+    let a = c.args in
+    value-good a.line.now a.k c.in-Value.v (rw (← c.field.ensures.0, ← c.decimal.ensures) c.in-Value.is)
 
-returns-2 : tie.Need-returns-2
+returns-2 : tie.Need-returns-in-Bad
 returns-2 c =
-    let a = c.before.before.before.before.before.args in
-    value-bad a.line.now a.k (rw (← c.before.before.before.field.ensures.0, ← c.before.before.decimal.ensures) c.enum_told.given.1)
+    let a = c.args in
+    value-bad a.line.now a.k (rw (← c.field.ensures.0, ← c.decimal.ensures) c.in-Bad.is)
 
-pub value-at-spec : {M : Type 1} → statement M
-value-at-spec =
+pub value_at_spec : {M : Type 1} → statement M
+value_at_spec =
     tie.close (tie.spec field-requires decimal-requires enum-known-v enum_told returns returns-2)
