@@ -22,7 +22,7 @@ use Rattle.writing.specs.Writing.{Small}
 use Rattle.fields.specs.Fields.{fits, is_line, value_at, Fails, LeastFailing, line_from}
 use Rattle.fields.proofs.JoinedLines.{values_from, values-small, line-joined, line-form, word-is}
 use Rattle.fields.proofs.TestsMean.{both-mean, at-most-means, below-means, range-means, there-means}
-use Rattle.fields.proofs.PlainLines.{range, plain-count, plain_value, plain-line}
+use Rattle.fields.proofs.PlainLines.{plain-count, plain_value, plain-line}
 use Rattle.statements.specs.Lines.{circuit_word, output_word, fault_word, bridge_word, is_head, head_fits, is_output, output_fits, is_fault, pair_in_range, pair_fits, fault_fits, lines_exist, rises_at, lines_rise, fault_refusal, is_bridge, bridge_fits, inputs_rise, bridge_refusal, names_bridge, fault_line_refusal}
 use Rattle.statements.specs.LineForms.{HeadForm, OutputForm, flat_pairs, line_of_pair, value_of_pair, FaultPairs, FaultForm, BridgeForm, FaultLineForm}
 use Rattle.statements.proofs.LineNumbers.{fault-least, bridge-least}
@@ -248,6 +248,7 @@ fault-two top l = two-exactly (is_fault l) ((3, fault_fits l) ∷ (5, lines_exis
     above k (inl f) = omega (arith, f.0)
     above k (inr (inl f)) = omega (arith, f.0)
     above k (inr (inr (inl f))) = omega (arith, f.0)
+    above k (inr (inr (inr f))) = elim f [ ]
 
 bridge-two : (inputs : ℕ) (l : List ℕ) → (bridge_refusal inputs l ≡ 2) ↔ (is_bridge l ≡ true → ⊥)
 bridge-two inputs l = two-exactly (is_bridge l) ((3, bridge_fits l) ∷ (19, inputs_rise inputs l) ∷ []) (bridge_refusal inputs l) above (bridge-least inputs l)
@@ -255,6 +256,7 @@ bridge-two inputs l = two-exactly (is_bridge l) ((3, bridge_fits l) ∷ (19, inp
     above : (k : ℕ) → Fails ((3, bridge_fits l) ∷ (19, inputs_rise inputs l) ∷ []) k → 2 < k
     above k (inl f) = omega (arith, f.0)
     above k (inr (inl f)) = omega (arith, f.0)
+    above k (inr (inr f)) = elim f [ ]
 
 pub fault-line-form : FaultLineForm
 unfolding fault_line_refusal

@@ -8,36 +8,32 @@ use Rattle.statements.proofs.fault_or_bridge.Tie as tie
 field-requires : tie.Need-field-requires
 field-requires c κs = search rules
 
-slice-aggregate-same : tie.Need-slice-aggregate-same
-slice-aggregate-same c = search rules
-
 same-requires : tie.Need-same-requires
 same-requires c κs = search rules
 
-bridge-line-requires : tie.Need-bridge-line-requires
+bridge-line-requires : tie.Need-bridge_line-requires
 bridge-line-requires c κs = search rules
 
-returns : tie.Need-returns
+returns : tie.Need-returns-then-same
 unfolding fault_line_refusal fault_line_of
 returns c =
-    let l = c.before.before.before.before.before.before.args.line.now in
-    rw (word-told l c.before.before.before.before.field.ensures.0 c.before.before.same.ensures c.before.if1.true) c.bridge-line.ensures
+    let l = c.args.line.now in
+    rw (word-told l c.field.ensures.0 c.same.ensures c.if-same.true) c.bridge_line.ensures
 
-fault-line-requires : tie.Need-fault-line-requires
+fault-line-requires : tie.Need-fault_line-requires
 fault-line-requires c κs = search rules
 
-returns-2 : tie.Need-returns-2
+returns-2 : tie.Need-returns
 unfolding fault_line_refusal fault_line_of
 returns-2 c =
-    let l = c.before.before.before.before.before.before.args.line.now in
-    rw (word-told l c.before.before.before.before.field.ensures.0 c.before.before.same.ensures c.before.if1.false) c.fault-line.ensures
+    let l = c.args.line.now in
+    rw (word-told l c.field.ensures.0 c.same.ensures c.if-same.false) c.fault_line.ensures
 
-pub fault-or-bridge-spec : {M : Type 1} → statement M
-fault-or-bridge-spec =
+pub fault_or_bridge_spec : {M : Type 1} → statement M
+fault_or_bridge_spec =
     tie.close
     (tie.spec
     field-requires
-    slice-aggregate-same
     same-requires
     bridge-line-requires
     returns

@@ -1,33 +1,27 @@
 use mathlib.Core.Path.{sym}
-use mathlib.Core.Bool.{◌||◌}
-use lib.Dec.{eqb}
 use borrow.Author.Rules.{rules}
-use borrow.Author.Tests.{not-true, not-false}
 use Rattle.statements.specs.Lines.{is_fault}
 use Rattle.statements.proofs.is_fault.Statement.{statement}
 use Rattle.statements.proofs.is_fault.Tie as tie
 
-fields-requires : tie.Need-fields-requires
+fields-requires : tie.Need-fields-fields-requires
 fields-requires c κs = search rules
 
-returns : tie.Need-returns
+returns : tie.Need-returns-then-not-fields
 unfolding is_fault
 returns c =
-    let n = c.before.fields in
-    simp (sym n.ensures, not-true ((eqb n.result 3 || eqb n.result 5) || eqb n.result 7) c.if1.true)
+    let n = c.fields-fields in
+    simp (sym n.ensures, c.if-not-fields.true)
 
-slice-aggregate-is-line : tie.Need-slice-aggregate-is-line
-slice-aggregate-is-line c = search rules
-
-is-line-requires : tie.Need-is-line-requires
+is-line-requires : tie.Need-is_line-requires
 is-line-requires c κs = search rules
 
-returns-2 : tie.Need-returns-2
+returns-2 : tie.Need-returns
 unfolding is_fault
 returns-2 c =
-    let n = c.before.before.before.fields in
-    simp (sym n.ensures, not-false ((eqb n.result 3 || eqb n.result 5) || eqb n.result 7) c.before.before.if1.false, sym c.is-line.ensures)
+    let n = c.fields-fields in
+    simp (sym n.ensures, c.if-not-fields.false, sym c.is_line.ensures)
 
-pub is-fault-spec : {M : Type 1} → statement M
-is-fault-spec =
-    tie.close (tie.spec fields-requires returns slice-aggregate-is-line is-line-requires returns-2)
+pub is_fault_spec : {M : Type 1} → statement M
+is_fault_spec =
+    tie.close (tie.spec fields-requires returns is-line-requires returns-2)

@@ -9,62 +9,58 @@ use Rattle.statements.specs.Lines.{output_refusal, is_output, output_fits, outpu
 use Rattle.statements.proofs.output_line.Statement.{statement}
 use Rattle.statements.proofs.output_line.Tie as tie
 
-value-at-requires : tie.Need-value-at-requires
+value-at-requires : tie.Need-value_at-n-requires
 value-at-requires c κs = search rules
 
-value-at-requires-2 : tie.Need-value-at-requires-2
+value-at-requires-2 : tie.Need-value_at-w-requires
 value-at-requires-2 c κs = search rules
 
-slice-aggregate-is-line : tie.Need-slice-aggregate-is-line
-slice-aggregate-is-line c = search rules
-
-is-line-requires : tie.Need-is-line-requires
+is-line-requires : tie.Need-is_line-formed-requires
 is-line-requires c κs = search rules
 
-in-range-requires : tie.Need-in-range-requires
+in-range-requires : tie.Need-in_range-requires
 in-range-requires c κs = search rules
 
-in-range-requires-2 : tie.Need-in-range-requires-2
+in-range-requires-2 : tie.Need-in_range-requires-2
 in-range-requires-2 c κs = search rules
 
-cast-exist : tie.Need-overflow-cast-exist
+cast-exist : tie.Need-overflow_cast-exist
 cast-exist c = search rules
 
-number-unless-requires : tie.Need-number-unless-requires
+number-unless-requires : tie.Need-number_unless-requires
 number-unless-requires c κs = search rules
 
-number-unless-requires-2 : tie.Need-number-unless-requires-2
+number-unless-requires-2 : tie.Need-number_unless-requires-2
 number-unless-requires-2 c κs = search rules
 
-number-unless-requires-3 : tie.Need-number-unless-requires-3
+number-unless-requires-3 : tie.Need-number_unless-requires-3
 number-unless-requires-3 c κs = search rules
 
-cast-t17 : tie.Need-overflow-cast-t17
+cast-t17 : tie.Need-overflow_cast-result
 cast-t17 c = search rules
 
 returns : tie.Need-returns
 unfolding output_refusal is_output output_fits fits output_of
 returns c =
-    let w = c.before.before.before.before.before.before.before.value-at2 in
+    let w = c.value_at-w in
     simp (
-      sym c.before.before.before.before.before.before.before.before.value-at.ensures.0,
+      sym c.value_at-n.ensures.0,
       sym w.ensures.0,
-      sym c.before.before.before.before.before.is-line.ensures,
-      sym c.before.before.before.before.in-range.ensures,
-      sym c.before.before.before.in-range2.ensures,
-      sym c.before.before.number-unless.ensures,
-      sym c.before.number-unless2.ensures,
-      sym c.number-unless3.ensures,
+      sym c.is_line-formed.ensures,
+      sym c.in_range.ensures,
+      sym c.in_range-2.ensures,
+      sym c.number_unless.ensures,
+      sym c.number_unless-2.ensures,
+      sym c.number_unless-3.ensures,
       to_z_pos w16 w.result (omega (arith, w.ensures.1)),
     ) (refl, refl)
 
-pub output-line-spec : {M : Type 1} → statement M
-output-line-spec =
+pub output_line_spec : {M : Type 1} → statement M
+output_line_spec =
     tie.close
     (tie.spec
     value-at-requires
     value-at-requires-2
-    slice-aggregate-is-line
     is-line-requires
     in-range-requires
     in-range-requires-2
