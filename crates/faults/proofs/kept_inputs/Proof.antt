@@ -2,7 +2,6 @@
 use borrow.Author.Rules.{rules}
 use mathlib.Core.Path.{◌≡◌, sym, ◌∙◌}
 use lib.ListN.{length}
-use borrow.Author.Tests.{not-true, not-false}
 use Rattle.faults.specs.Faults.{opened_right, binary}
 use Rattle.faults.proofs.Arguments.{few-is, few-none, few-many, opened-not-few, opened-too-many, opened-binary, kept-none, kept-is}
 use Rattle.faults.proofs.kept_inputs.Statement.{statement}

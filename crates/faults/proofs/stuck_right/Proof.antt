@@ -3,7 +3,6 @@ use borrow.Author.Rules.{rules}
 use mathlib.Core.Path.{◌≡◌, sym, ap, ◌∙◌}
 use mathlib.Core.Bool.{Bool, ◌&&◌}
 use lib.ListN.{length}
-use borrow.Author.Tests.{not-true, not-false}
 use Rattle.faults.specs.Faults.{stuck_right, binary, rising_inputs}
 use Rattle.faults.proofs.Arguments.{few-is, few-none, few-many, stuck-not-few, stuck-uneven, stuck-binary}
 use Rattle.faults.proofs.stuck_right.Statement.{statement}
