@@ -20,7 +20,7 @@ use Rattle.bridges.proofs.UnhalvedLabels.{unhalved-refused, halved-done}
 use Rattle.bridges.proofs.bridged.Statement.{statement}
 use Rattle.bridges.proofs.bridged.Tie as tie
 
-inputs-of-requires : tie.Need-inputs-of-requires
+inputs-of-requires : tie.Need-inputs_of-inputs-requires
 inputs-of-requires c κs = search rules
 
 screen-requires : tie.Need-screen-requires
@@ -46,9 +46,9 @@ module _ (s : tie.After-screen) where
   abbrev Right : Bool
   Right = bridge_right (inputs_of (length C)) I J
 
-  right : (ltb 0 I && (ltb I J && leb J s.before.inputs-of.result)) ≡ Right
+  right : (ltb 0 I && (ltb I J && leb J s.before.inputs_of-inputs.result)) ≡ Right
   unfolding bridge_right
-  right = ap (λ (n : ℕ). ltb 0 I && (ltb I J && leb J n)) s.before.inputs-of.ensures
+  right = ap (λ (n : ℕ). ltb 0 I && (ltb I J && leb J n)) s.before.inputs_of-inputs.ensures
 
   answered : s.screen.result ≡ screen_of (minus 2048000) (pos 2048000) Right C Room (length C)
   answered = s.screen.ensures ∙ ap (λ (b : Bool). screen_of (minus 2048000) (pos 2048000) b C Room (length C)) right
@@ -56,19 +56,19 @@ module _ (s : tie.After-screen) where
   abbrev next : Answer → Answer
   next a = and_then a (unhalved_answer I J C)
 
-enum-known-number : tie.Need-enum-known-number
+enum-known-number : tie.Need-enum_known-number
 enum-known-number c = search rules
 
-enum_told : tie.Need-enum-told
+enum_told : tie.Need-enum_told-1
 enum_told c = search rules
 
 -- where it answered Done
-module _ (t : tie.After-enum-told) where
+module _ (t : tie.In-Done) where
   abbrev T : tie.After-screen
-  T = t.before.before
+  T = t.before
 
   done : Done ≡ screen_of (minus 2048000) (pos 2048000) (Right T) (C T) (Room T) (length (C T))
-  done = sym t.enum_told.given.1 ∙ answered T
+  done = sym t.in-Done.is ∙ answered T
 
   known : Ready 2048000 (Right T) (C T) (Room T) (length (C T))
   known = ready 2048000 (Right T) (C T) (Room T) (length (C T)) (sym done)
@@ -76,36 +76,36 @@ module _ (t : tie.After-enum-told) where
   arguments : BridgeArguments (inputs_of (length (C T))) (I T) (J T)
   arguments = (bridge-arguments (inputs_of (length (C T))) (I T) (J T)).0 known.right
 
-first-unhalved-requires : tie.Need-first-unhalved-requires
+first-unhalved-requires : tie.Need-first_unhalved-place-requires
 first-unhalved-requires c κs = (arguments c, (known c).within)
 
-returns : tie.Need-returns
+returns : tie.Need-returns-then-place-n
 unfolding bridged_answer
 returns c =
     let t = c.before.before in
-    let e = c.before.first-unhalved.ensures in
-    (ap (Refused 11) e ∙ sym (unhalved-refused (I (T t)) (J (T t)) (C (T t)) (omega (arith, e, c.if1.true))) ∙ ap (next (T t)) (done t), refl)
+    let e = c.before.first_unhalved-place.ensures in
+    (ap (Refused 11) e ∙ sym (unhalved-refused (I (T t)) (J (T t)) (C (T t)) (omega (arith, e, c.if-place-n.true))) ∙ ap (next (T t)) (done t), refl)
 
 bridge-requires : tie.Need-bridge-requires
-bridge-requires c κs = let t = c.before.before.before in (arguments t, ((known t).within, (known t).ranges))
+bridge-requires c κs = let t = c.before.before.before in (arguments t, ((known t).within, (known t).fits))
 
-returns-2 : tie.Need-returns-2
+returns-2 : tie.Need-returns-in-Refused
 unfolding bridged_answer
-returns-2 c = let s = c.before.before.before in (ap (next s) (sym c.before.number.given.1 ∙ answered s), refl)
+returns-2 c = let s = c.before in (ap (next s) (sym c.in-Refused.is ∙ answered s), refl)
 
-same_length : tie.Need-same-length
+same_length : tie.Need-shape_of-out
 same_length c = search rules
 
-returns-3 : tie.Need-returns-3
+returns-3 : tie.Need-returns-else-place-n
 unfolding bridged_answer
 returns-3 c =
     let u = c.before.before.before in
     let t = u.before.before in
-    let e = u.before.first-unhalved.ensures in
-    (sym (halved-done (I (T t)) (J (T t)) (C (T t)) (omega (arith, e, u.if1.false))) ∙ ap (next (T t)) (done t), c.before.bridge.ensures)
+    let e = u.before.first_unhalved-place.ensures in
+    (sym (halved-done (I (T t)) (J (T t)) (C (T t)) (omega (arith, e, u.if-place-n.false))) ∙ ap (next (T t)) (done t), c.before.bridge.ensures)
 
-pub bridged-spec : {M : Type 1} → statement M
-bridged-spec =
+pub bridged_spec : {M : Type 1} → statement M
+bridged_spec =
     tie.close
     (tie.spec
     inputs-of-requires

@@ -21,32 +21,32 @@ use Rattle.bridges.proofs.bridged_at.Tie as tie
 read : (s : tie.Start) → PairRead s.args.coefficients.now s.args.first s.args.second s.args.label
 read s = pair_read s.args.coefficients.now s.args.first s.args.second s.args.label s.requires.0 s.requires.1.0 s.requires.1.1
 
-sub-i : tie.Need-overflow-sub-i
+sub-i : tie.Need-overflow_sub-i
 sub-i c = search rules
 
-cast-i : tie.Need-overflow-cast-i
+cast-i : tie.Need-overflow_cast-i
 cast-i c = search rules
 
-shl-i : tie.Need-overflow-shl-i
+shl-i : tie.Need-overflow_shl-i
 shl-i c = omega (arith, (read c).few)
 
-sub-j : tie.Need-overflow-sub-j
+sub-j : tie.Need-overflow_sub-j
 sub-j c = search rules
 
-cast-j : tie.Need-overflow-cast-j
+cast-j : tie.Need-overflow_cast-j
 cast-j c = search rules
 
-shl-j : tie.Need-overflow-shl-j
+shl-j : tie.Need-overflow_shl-j
 shl-j c = omega (arith, (read c).few)
 
-add-has : tie.Need-overflow-add-has
+add-has : tie.Need-overflow_add-has
 add-has c = omega (arith, (read c).small)
 
-pair-sum-requires : tie.Need-pair-sum-requires
+pair-sum-requires : tie.Need-pair_sum-half-requires
 pair-sum-requires c κs = search rules
 
 -- the half, as bits and as a number; the coefficient at the label, and the one that adds both
-module _ (t : tie.After-pair-sum) where
+module _ (t : tie.After-pair_sum-half) where
   abbrev S : tie.Start
   S = t.before
 
@@ -60,87 +60,87 @@ module _ (t : tie.After-pair-sum) where
   Z = nth S.args.coefficients.now (S.args.label + bit_shifted S.args.first + bit_shifted S.args.second)
 
   abbrev bits : ℕ
-  bits = of_z w32 (quot_z (to_z w32 (of_z w32 t.pair-sum.result)) (to_z w32 2))
+  bits = of_z w32 (quot_z (to_z w32 (of_z w32 t.pair_sum-half.result)) (to_z w32 2))
 
   half : bits ≡ of_z w32 Half
   unfolding half_at
   half =
-      ap (of_z w32) (quot_is w32 (omega arith) t.pair-sum.result 2 t.pair-sum.ok (omega arith, omega arith))
-      ∙ ap (λ (z : ℤ). of_z w32 (quotient_of 2 z)) t.pair-sum.ensures
+      ap (of_z w32) (quot_is w32 (omega arith) t.pair_sum-half.result 2 t.pair_sum-half.type_inv (omega arith, omega arith))
+      ∙ ap (λ (z : ℤ). of_z w32 (quotient_of 2 z)) t.pair_sum-half.ensures
 
   x-size : nat_abs X ≤ 2048000
-  x-size = S.pre.1.0 S.args.label S.pre.1.1
+  x-size = S.requires.1.0 S.args.label S.requires.1.1
 
   sum_room : nat_abs X + nat_abs Half < 2 ^ 31
   sum_room = omega (arith, x-size, (read S).half-size)
 
-div-half : tie.Need-nonzero-div-half
-div-half c = quot-needs w32 (omega arith) c.pair-sum.result 2 c.pair-sum.type-inv (omega arith, omega arith)
+div-half : tie.Need-nonzero_div-half
+div-half c = quot-needs w32 (omega arith) c.pair_sum-half.result 2 c.pair_sum-half.type_inv (omega arith, omega arith)
 
-mul-result : tie.Need-overflow-mul-result
+mul-result : tie.Need-offset_bounds-coefficients-label
 mul-result c = search rules
 
-shared-slice-copy-out-result : tie.Need-shared-slice-copy-out-result
+shared-slice-copy-out-result : tie.Need-bounds-coefficients-label
 shared-slice-copy-out-result c = search rules
 
-add-result : tie.Need-overflow-add-result
+add-result : tie.Need-overflow_add-result
 add-result c = let t = c.before.before in add-fits w32 (X t) (Half t) refl (half t) (sum_room t)
 
 -- at a label with neither: the one that adds both is in the list
-module _ (u : tie.Then1) where
-  abbrev T : tie.After-pair-sum
+module _ (u : tie.Then-has-eq0) where
+  abbrev T : tie.After-pair_sum-half
   T = u.before
 
   both-in : (S T).args.label + bit_shifted (S T).args.first + bit_shifted (S T).args.second < length (S T).args.coefficients.now
-  both-in = (read (S T)).both-in u.if1.taken
+  both-in = (read (S T)).both-in u.if-has-eq0.true
 
-add-result-2 : tie.Need-overflow-add-result-2
+add-result-2 : tie.Need-overflow_add-result-then-has-eq0
 add-result-2 c = omega (arith, both-in c.before)
 
-add-result-3 : tie.Need-overflow-add-result-3
+add-result-3 : tie.Need-overflow_add-result-then-has-eq0-2
 add-result-3 c = omega (arith, both-in c.before)
 
-mul-result-2 : tie.Need-overflow-mul-result-2
+mul-result-2 : tie.Need-offset_bounds-coefficients-label-then-has-eq0
 mul-result-2 c = omega (arith, both-in c.before)
 
-shared-slice-copy-out-result-2 : tie.Need-shared-slice-copy-out-result-2
+shared-slice-copy-out-result-2 : tie.Need-bounds-coefficients-label-then-has-eq0
 shared-slice-copy-out-result-2 c = omega (arith, both-in c.before)
 
-three-room : (u : tie.Then1) → nat_abs (X (T u) +ℤ Half (T u)) + nat_abs (Z (T u)) < 2 ^ 31
+three-room : (u : tie.Then-has-eq0) → nat_abs (X (T u) +ℤ Half (T u)) + nat_abs (Z (T u)) < 2 ^ 31
 three-room u =
-    omega (arith, x-size (T u), (read (S (T u))).half-size, nat_abs-add (X (T u)) (Half (T u)), (S (T u)).pre.1.0 _ (both-in u))
+    omega (arith, x-size (T u), (read (S (T u))).half-size, nat_abs-add (X (T u)) (Half (T u)), (S (T u)).requires.1.0 _ (both-in u))
 
-add-result-4 : tie.Need-overflow-add-result-4
+add-result-4 : tie.Need-overflow_add-result-then-has-eq0-3
 add-result-4 c =
     let u = c.before.before in
     let t = T u in
     add-fits w32 (X t +ℤ Half t) (Z t) (ap (of_z w32) (add_is w32 (X t) (Half t) refl (half t) (sum_room t))) refl (three-room u)
 
-returns : tie.Need-returns
+returns : tie.Need-returns-then-has-eq0
 returns c =
     let u = c.before.before in
     let t = T u in
     add_kept w32 (X t +ℤ Half t) (Z t) (ap (of_z w32) (add_is w32 (X t) (Half t) refl (half t) (sum_room t))) refl (three-room u)
-    ∙ sym ((read (S t)).at-neither u.if1.true)
+    ∙ sym ((read (S t)).at-neither u.if-has-eq0.true)
 
-add-if2 : tie.Need-overflow-add-if2
+add-if2 : tie.Need-overflow_add-i
 add-if2 c = omega (arith, (read c.before.before).bits-few)
 
-sub-result : tie.Need-overflow-sub-result
+sub-result : tie.Need-overflow_sub-result
 sub-result c = let t = c.before.before in sub-fits w32 (pos 0) (Half t) refl (half t) (omega (arith, (read (S t)).half-size))
 
-returns-2 : tie.Need-returns-2
+returns-2 : tie.Need-returns-then-has-i
 returns-2 c =
     let t = c.before.before in
-    sub-kept w32 (pos 0) (Half t) refl (half t) (omega (arith, (read (S t)).half-size)) ∙ +ℤ_idl (neg_ℤ (Half t)) ∙ sym ((read (S t)).at_both c.if2.true)
+    sub-kept w32 (pos 0) (Half t) refl (half t) (omega (arith, (read (S t)).half-size)) ∙ +ℤ_idl (neg_ℤ (Half t)) ∙ sym ((read (S t)).at_both c.if-has-i.true)
 
-returns-3 : tie.Need-returns-3
+returns-3 : tie.Need-returns
 returns-3 c =
     let t = c.before.before in
-    reads-back w32 (Half t) (half t) (omega (arith, (read (S t)).half-size)) ∙ sym ((read (S t)).at_one c.before.if1.false c.if2.false)
+    reads-back w32 (Half t) (half t) (omega (arith, (read (S t)).half-size)) ∙ sym ((read (S t)).at_one c.before.if-has-eq0.false c.if-has-i.false)
 
-pub bridged-at-spec : {M : Type 1} → statement M
-bridged-at-spec =
+pub bridged_at_spec : {M : Type 1} → statement M
+bridged_at_spec =
     tie.close
     (tie.spec
     sub-i

@@ -21,49 +21,49 @@ x s = nth s.args.coefficients.now (base_of s.args.first s.args.second s.args.lab
 abbrev y : tie.Start → ℤ
 y s = nth s.args.coefficients.now (base_of s.args.first s.args.second s.args.label + bit_shifted s.args.second)
 
-sub-i : tie.Need-overflow-sub-i
+sub-i : tie.Need-overflow_sub-i
 sub-i c = search rules
 
-cast-i : tie.Need-overflow-cast-i
+cast-i : tie.Need-overflow_cast-i
 cast-i c = search rules
 
-shl-i : tie.Need-overflow-shl-i
+shl-i : tie.Need-overflow_shl-i
 shl-i c = omega (arith, (read c).few)
 
-sub-j : tie.Need-overflow-sub-j
+sub-j : tie.Need-overflow_sub-j
 sub-j c = search rules
 
-cast-j : tie.Need-overflow-cast-j
+cast-j : tie.Need-overflow_cast-j
 cast-j c = search rules
 
-shl-j : tie.Need-overflow-shl-j
+shl-j : tie.Need-overflow_shl-j
 shl-j c = omega (arith, (read c).few)
 
-add-base : tie.Need-overflow-add-base
+add-base : tie.Need-overflow_add-base
 add-base c = omega (arith, (read c).small)
 
-sub-base : tie.Need-overflow-sub-base
+sub-base : tie.Need-overflow_sub-base
 sub-base c = omega (arith, (read c).small)
 
-add-result : tie.Need-overflow-add-result
+add-result : tie.Need-overflow_add-result
 add-result c = omega (arith, (read c).first-in)
 
-mul-result : tie.Need-overflow-mul-result
+mul-result : tie.Need-offset_bounds-coefficients-base
 mul-result c = omega (arith, (read c).first-in)
 
-shared-slice-copy-out-result : tie.Need-shared-slice-copy-out-result
+shared-slice-copy-out-result : tie.Need-bounds-coefficients-base
 shared-slice-copy-out-result c = omega (arith, (read c).first-in)
 
-add-result-2 : tie.Need-overflow-add-result-2
+add-result-2 : tie.Need-overflow_add-result-2
 add-result-2 c = omega (arith, (read c.before).second-in)
 
-mul-result-2 : tie.Need-overflow-mul-result-2
+mul-result-2 : tie.Need-offset_bounds-coefficients-base-2
 mul-result-2 c = omega (arith, (read c.before).second-in)
 
-shared-slice-copy-out-result-2 : tie.Need-shared-slice-copy-out-result-2
+shared-slice-copy-out-result-2 : tie.Need-bounds-coefficients-base-2
 shared-slice-copy-out-result-2 c = omega (arith, (read c.before).second-in)
 
-add-result-3 : tie.Need-overflow-add-result-3
+add-result-3 : tie.Need-overflow_add-result-3
 add-result-3 c =
     let s = c.before.before in
     add-fits w32 (x s) (y s) refl refl (omega (arith, (read s).sum_room))
@@ -73,8 +73,8 @@ returns c =
     let s = c.before.before in
     add_kept w32 (x s) (y s) refl refl (omega (arith, (read s).sum_room)) ∙ (read s).sum_is
 
-pub pair-sum-spec : {M : Type 1} → statement M
-pair-sum-spec =
+pub pair_sum_spec : {M : Type 1} → statement M
+pair_sum_spec =
     tie.close
     (tie.spec
     sub-i

@@ -8,42 +8,42 @@ use Rattle.faults.proofs.Arguments.{binary-stop, binary-next, binary-end}
 use Rattle.faults.proofs.is_binary.Statement.{statement}
 use Rattle.faults.proofs.is_binary.Tie as tie
 
-abbrev invariant-loop : tie.invariant-loop
+abbrev invariant-loop : tie.invariant-loop-i
 invariant-loop values i₀ i = (i ≤ length values) × (binary values ≡ binary (drop i values))
 
-abbrev decreases-loop : tie.decreases-loop
+abbrev decreases-loop : tie.decreases-loop-i
 decreases-loop values i₀ i = length values - i
 
-loop-holds : tie.Need-loop-init invariant-loop decreases-loop
+loop-holds : tie.Need-loop-i-init invariant-loop decreases-loop
 loop-holds c = (search rules, refl)
 
-mul-value : tie.Need-overflow-mul-value invariant-loop decreases-loop
+mul-value : tie.Need-offset_bounds-values-i invariant-loop decreases-loop
 mul-value c = search rules
 
-shared-slice-read-value : tie.Need-shared-slice-read-value invariant-loop decreases-loop
+shared-slice-read-value : tie.Need-bounds-values-i invariant-loop decreases-loop
 shared-slice-read-value c = search rules
 
-returns : tie.Need-returns invariant-loop decreases-loop
+returns : tie.Need-returns-then-value-gt1 invariant-loop decreases-loop
 returns c =
     let l = c.before.before.before in
-    sym (l.loop.invariant.1 ∙ binary-stop l.before.args.values.now l.loop.i c.before.before.loop-test.true c.if1.true)
+    sym (l.loop-i.invariant.1 ∙ binary-stop l.before.args.values.now l.loop-i.i c.before.before.loop-i-test.true c.if-value-gt1.true)
 
-add-i : tie.Need-overflow-add-i invariant-loop decreases-loop
+add-i : tie.Need-overflow_add-i invariant-loop decreases-loop
 add-i c = search rules
 
-loop-less : tie.Need-loop-smaller invariant-loop decreases-loop
+loop-less : tie.Need-loop-i-smaller invariant-loop decreases-loop
 loop-less c = search rules
 
-loop-again : tie.Need-loop-preserved invariant-loop decreases-loop
+loop-again : tie.Need-loop-i-preserved invariant-loop decreases-loop
 loop-again c =
     let l = c.before.before.before in
-    (search rules, l.loop.invariant.1 ∙ binary-next l.before.args.values.now l.loop.i c.before.before.loop-test.true c.if1.false)
+    (search rules, l.loop-i.invariant.1 ∙ binary-next l.before.args.values.now l.loop-i.i c.before.before.loop-i-test.true c.if-value-gt1.false)
 
-returns-2 : tie.Need-returns-2 invariant-loop decreases-loop
-returns-2 c = let l = c.before in sym (l.loop.invariant.1 ∙ binary-end l.before.args.values.now l.loop.i c.loop-test.false)
+returns-2 : tie.Need-returns invariant-loop decreases-loop
+returns-2 c = let l = c.before in sym (l.loop-i.invariant.1 ∙ binary-end l.before.args.values.now l.loop-i.i c.loop-i-test.false)
 
-pub is-binary-spec : {M : Type 1} → statement M
-is-binary-spec =
+pub is_binary_spec : {M : Type 1} → statement M
+is_binary_spec =
     tie.close
     (tie.spec
     invariant-loop

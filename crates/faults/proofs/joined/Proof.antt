@@ -7,23 +7,23 @@ use Rattle.faults.proofs.Arguments.{signed-none, signed-some}
 use Rattle.faults.proofs.joined.Statement.{statement}
 use Rattle.faults.proofs.joined.Tie as tie
 
-add-result : tie.Need-overflow-add-result
+add-result : tie.Need-overflow_add-result
 add-result c = let s = c.before in add-fits w64 s.args.x s.args.y refl refl s.requires
 
-returns : tie.Need-returns
+returns : tie.Need-returns-then-value-eq0
 returns c =
     let s = c.before in
     let a = s.args in
-    add_kept w64 a.x a.y refl refl s.requires ∙ ap (λ (z : ℤ). a.x +ℤ z) (sym (signed-none a.value a.y c.if1.true))
+    add_kept w64 a.x a.y refl refl s.requires ∙ ap (λ (z : ℤ). a.x +ℤ z) (sym (signed-none a.value a.y c.if-value-eq0.true))
 
-sub-result : tie.Need-overflow-sub-result
+sub-result : tie.Need-overflow_sub-result
 sub-result c = let s = c.before in sub-fits w64 s.args.x s.args.y refl refl s.requires
 
-returns-2 : tie.Need-returns-2
+returns-2 : tie.Need-returns
 returns-2 c =
     let s = c.before in
     let a = s.args in
-    sub-kept w64 a.x a.y refl refl s.requires ∙ ap (λ (z : ℤ). a.x +ℤ z) (sym (signed-some a.value a.y c.if1.false))
+    sub-kept w64 a.x a.y refl refl s.requires ∙ ap (λ (z : ℤ). a.x +ℤ z) (sym (signed-some a.value a.y c.if-value-eq0.false))
 
-pub joined-spec : {M : Type 1} → statement M
-joined-spec = tie.close (tie.spec add-result returns sub-result returns-2)
+pub joined_spec : {M : Type 1} → statement M
+joined_spec = tie.close (tie.spec add-result returns sub-result returns-2)

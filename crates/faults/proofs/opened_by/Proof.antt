@@ -43,7 +43,7 @@ module _ (s : tie.Start) where
   Lines = take K ((N + 1) ∷ (N + 2) ∷ (N + 3) ∷ [])
 
   known : OpenedCall C Values N
-  known = opened-call C Values N s.pre.0.0 s.pre.0.1
+  known = opened-call C Values N s.requires.0.0 s.requires.0.1
 
   as_many : K ≡ length Lines
   as_many = sym (length-take-le K ((N + 1) ∷ (N + 2) ∷ (N + 3) ∷ []) known.few)
@@ -55,22 +55,22 @@ module _ (s : tie.Start) where
   divisor : (1 * 2 ^ K) % 2 ^ 64 ≡ 2 ^ K
   divisor = bit_is 64 K (let f = known.few in omega arith)
 
-add-t13 : tie.Need-overflow-add-t13
+add-t13 : tie.Need-overflow_add-lines
 add-t13 c = let m = (known c.before.before.before.before).most in omega arith
 
-add-t14 : tie.Need-overflow-add-t14
+add-t14 : tie.Need-overflow_add-lines-2
 add-t14 c = let m = (known c.before.before.before.before).most in omega arith
 
-add-t15 : tie.Need-overflow-add-t15
+add-t15 : tie.Need-overflow_add-lines-3
 add-t15 c = let m = (known c.before.before.before.before).most in omega arith
 
-array-share-prefix-lines : tie.Need-array-share-prefix-lines
+array-share-prefix-lines : tie.Need-slice_bounds-lines-end
 array-share-prefix-lines c = (known c.before.before.before.before.before).few
 
-slice-aggregate-stick-all : tie.Need-slice-aggregate-stick-all
+slice-aggregate-stick-all : tie.Need-slice_bounds-stick_all-end
 slice-aggregate-stick-all c = sym (length-take-le _ _ (known c.before.before.before.before.before.before).few)
 
-stick-all-requires : tie.Need-stick-all-requires
+stick-all-requires : tie.Need-stick_all-requires
 stick-all-requires c κs =
     let s = c.before.before.before.before.before.before in
     let k = known s in
@@ -81,63 +81,63 @@ stick-all-requires c κs =
     ((omega (arith, as_many s), as_many s), (rising-after (N s) (inputs_of (length (C s))) (K s) few (omega arith), s.requires.1.0))
 
 -- the working numbers with the lines stuck
-module _ (t : tie.After-stick-all) where
+module _ (t : tie.After-stick_all) where
   abbrev S : tie.Start
   S = t.before.before.before.before.before.before.before
 
-  left : t.stick-all.last.0 ≡ stuck_spectrum_of (lines_after (N S) (Values S)) (C S)
+  left : t.stick_all.new.a ≡ stuck_spectrum_of (lines_after (N S) (Values S)) (C S)
   left =
-      t.stick-all.ensures
+      t.stick_all.ensures
       ∙ ap₂ stuck_spectrum_of (lines-after (N S) (Values S) (known S).few) t.before.before.before.before.widen.ensures
 
-  long : length t.stick-all.last.0 ≡ length (C S)
+  long : length t.stick_all.new.a ≡ length (C S)
   long = ap length left ∙ length-stuck (lines_after (N S) (Values S)) (C S)
 
-  inside : (1 * 2 ^ N S) % 2 ^ 64 ≤ length t.stick-all.last.0
+  inside : (1 * 2 ^ N S) % 2 ^ 64 ≤ length t.stick_all.new.a
   inside = let i = (known S).inside in omega (arith, due S, long)
 
-  sums : take ((1 * 2 ^ N S) % 2 ^ 64) t.stick-all.last.0 ≡ opened_sums (C S) (Values S) (N S)
+  sums : take ((1 * 2 ^ N S) % 2 ^ 64) t.stick_all.new.a ≡ opened_sums (C S) (Values S) (N S)
   sums = ap₂ (λ (n : ℕ) (l : List ℤ). take n l) (due S) left ∙ opened-sums (C S) (Values S) (N S) (known S).kept-inputs (known S).inside
 
-shl-due : tie.Need-overflow-shl-due
+shl-due : tie.Need-overflow_shl-due
 shl-due c = let m = (known (S c.before)).most in omega arith
 
-shl-divisor : tie.Need-overflow-shl-divisor
+shl-divisor : tie.Need-overflow_shl-divisor
 shl-divisor c = let f = (known (S c.before)).few in omega arith
 
-slice-reshare-prefix-divided : tie.Need-slice-reshare-prefix-divided
+slice-reshare-prefix-divided : tie.Need-slice_bounds-divided-end
 slice-reshare-prefix-divided c = inside c.before
 
-slice-aggregate-divided : tie.Need-slice-aggregate-divided
-slice-aggregate-divided c = sym (length-take-le _ _ (inside c.before.before))
+slice-aggregate-divided : tie.Need-slice_bounds-divided-end-2
+slice-aggregate-divided c = sym (length-take-le _ _ (inside c.before))
 
 divided-requires : tie.Need-divided-requires
 divided-requires c κs =
-    let t = c.before.before.before in
+    let t = c.before.before in
     let s = S t in
     let power : 2 ^ K s ≤ 2 ^ 3 = pow_mono {j = 3} (known s).few in
-    let cut = length-take-le ((1 * 2 ^ N s) % 2 ^ 64) t.stick-all.new.0 (inside t) in
-    ((omega (arith, divisor s, pow_pos (K s)), omega (arith, divisor s)), (omega arith, omega (arith, cut, due s, s.pre.1.1.1)))
+    let cut = length-take-le ((1 * 2 ^ N s) % 2 ^ 64) t.stick_all.new.a (inside t) in
+    ((omega (arith, divisor s, pow_pos (K s)), omega (arith, divisor s)), (omega arith, omega (arith, cut, due s, s.requires.1.1.1)))
 
-same_length : tie.Need-same-length
+same_length : tie.Need-shape_of-work
 same_length c = search rules
 
-same-length-2 : tie.Need-same-length-2
+same-length-2 : tie.Need-shape_of-out
 same-length-2 c = search rules
 
 returns : tie.Need-returns
 returns c =
-    let t = c.before.before.before.before.before in
+    let t = c.before.before.before.before in
     let s = S t in
     let kept = (known s).kept-inputs in (
       c.before.divided.ensures.0 ∙ ap₂ (λ (d : ℕ) (l : List ℤ). divided_answer d (minus 2048000) (pos 2048000) l) (divisor s) (sums t)
-          ∙ sums-answer (C s) (Values s) (N s) kept s.pre.1.0,
+          ∙ sums-answer (C s) (Values s) (N s) kept s.requires.1.0,
       c.before.divided.ensures.1 ∙ ap (λ (l : List ℤ). leaves c.before.divided.result l s.args.out.now)
           (ap₂ quotients_of (divisor s) (sums t) ∙ sums-quotients (C s) (Values s) (N s) kept),
     )
 
-pub opened-by-spec : {M : Type 1} → statement M
-opened-by-spec =
+pub opened_by_spec : {M : Type 1} → statement M
+opened_by_spec =
     tie.close
     (tie.spec
     widen-requires

@@ -8,53 +8,53 @@ use Rattle.faults.proofs.Arguments.{rising-low, rising-high, rising-next, rising
 use Rattle.faults.proofs.rises.Statement.{statement}
 use Rattle.faults.proofs.rises.Tie as tie
 
-abbrev invariant-loop : tie.invariant-loop
+abbrev invariant-loop : tie.invariant-loop-i
 invariant-loop lines n last₀ i₀ last i = (i ≤ length lines) × (rising_inputs 0 n lines ≡ rising_inputs last n (drop i lines))
 
-abbrev decreases-loop : tie.decreases-loop
+abbrev decreases-loop : tie.decreases-loop-i
 decreases-loop lines n last₀ i₀ last i = length lines - i
 
-loop-holds : tie.Need-loop-init invariant-loop decreases-loop
+loop-holds : tie.Need-loop-i-init invariant-loop decreases-loop
 loop-holds c = (search rules, refl)
 
-mul-line : tie.Need-overflow-mul-line invariant-loop decreases-loop
+mul-line : tie.Need-offset_bounds-lines-i invariant-loop decreases-loop
 mul-line c = search rules
 
-shared-slice-read-line : tie.Need-shared-slice-read-line invariant-loop decreases-loop
+shared-slice-read-line : tie.Need-bounds-lines-i invariant-loop decreases-loop
 shared-slice-read-line c = search rules
 
-returns : tie.Need-returns invariant-loop decreases-loop
+returns : tie.Need-returns-then-line-last invariant-loop decreases-loop
 returns c =
     let l = c.before.before.before in
     let a = l.before.args in
-    sym (l.loop.invariant.1 ∙ rising-low l.loop.last a.n a.lines.now l.loop.i c.before.before.loop-test.true c.if1.true)
+    sym (l.loop-i.invariant.1 ∙ rising-low l.loop-i.last a.n a.lines.now l.loop-i.i c.before.before.loop-i-test.true c.if-line-last.true)
 
-returns-2 : tie.Need-returns-2 invariant-loop decreases-loop
+returns-2 : tie.Need-returns-then-n-line invariant-loop decreases-loop
 returns-2 c =
     let l = c.before.before.before.before in
     let a = l.before.args in
-    sym (l.loop.invariant.1 ∙ rising-high l.loop.last a.n a.lines.now l.loop.i c.before.before.before.loop-test.true c.before.if1.false c.if2.true)
+    sym (l.loop-i.invariant.1 ∙ rising-high l.loop-i.last a.n a.lines.now l.loop-i.i c.before.before.before.loop-i-test.true c.before.if-line-last.false c.if-n-line.true)
 
-add-i : tie.Need-overflow-add-i invariant-loop decreases-loop
+add-i : tie.Need-overflow_add-i invariant-loop decreases-loop
 add-i c = search rules
 
-loop-less : tie.Need-loop-smaller invariant-loop decreases-loop
+loop-less : tie.Need-loop-i-smaller invariant-loop decreases-loop
 loop-less c = search rules
 
-loop-again : tie.Need-loop-preserved invariant-loop decreases-loop
+loop-again : tie.Need-loop-i-preserved invariant-loop decreases-loop
 loop-again c =
     let l = c.before.before.before.before in
     let a = l.before.args in
-    (search rules, l.loop.invariant.1 ∙ rising-next l.loop.last a.n a.lines.now l.loop.i c.before.before.before.loop-test.true c.before.if1.false c.if2.false)
+    (search rules, l.loop-i.invariant.1 ∙ rising-next l.loop-i.last a.n a.lines.now l.loop-i.i c.before.before.before.loop-i-test.true c.before.if-line-last.false c.if-n-line.false)
 
-returns-3 : tie.Need-returns-3 invariant-loop decreases-loop
+returns-3 : tie.Need-returns invariant-loop decreases-loop
 returns-3 c =
     let l = c.before in
     let a = l.before.args in
-    sym (l.loop.invariant.1 ∙ rising-end l.loop.last a.n a.lines.now l.loop.i c.loop-test.false)
+    sym (l.loop-i.invariant.1 ∙ rising-end l.loop-i.last a.n a.lines.now l.loop-i.i c.loop-i-test.false)
 
-pub rises-spec : {M : Type 1} → statement M
-rises-spec =
+pub rises_spec : {M : Type 1} → statement M
+rises_spec =
     tie.close
     (tie.spec
     invariant-loop

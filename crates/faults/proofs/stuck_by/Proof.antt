@@ -20,14 +20,14 @@ use Rattle.faults.proofs.stuck_by.Tie as tie
 widen-requires : tie.Need-widen-requires
 widen-requires c κs = search rules
 
-stick-all-requires : tie.Need-stick-all-requires
+stick-all-requires : tie.Need-stick_all-requires
 stick-all-requires c κs =
     let s = c.before.before.before.before.before.before in
     subst⁻¹ (λ (l : List ℤ). ((length s.args.lines.now ≤ 3) × (length s.args.values.now ≡ length s.args.lines.now)) × ((rising_inputs 0 (inputs_of (length l)) s.args.lines.now ≡ true) × Within 2048000 l))
     c.before.before.widen.ensures (s.requires.0, (s.requires.1.0, s.requires.1.1.0))
 
 -- the working numbers with the lines stuck
-module _ (t : tie.After-stick-all) where
+module _ (t : tie.After-stick_all) where
   abbrev S : tie.Start
   S = t.before.before.before.before.before.before.before
 
@@ -37,31 +37,31 @@ module _ (t : tie.After-stick-all) where
   abbrev Left : List ℤ
   Left = stuck_spectrum_of Lines S.args.coefficients.now
 
-  left : t.stick-all.last.0 ≡ Left
-  left = t.stick-all.ensures ∙ ap (stuck_spectrum_of Lines) t.before.before.before.widen.ensures
+  left : t.stick_all.new.a ≡ Left
+  left = t.stick_all.ensures ∙ ap (stuck_spectrum_of Lines) t.before.before.before.widen.ensures
 
   few : length Lines ≤ 3
-  few = omega (arith, length-stuck-of S.args.lines.now S.args.values.now, S.pre.0.0)
+  few = omega (arith, length-stuck-of S.args.lines.now S.args.values.now, S.requires.0.0)
 
 narrow-requires : tie.Need-narrow-requires
 narrow-requires c κs =
-    let t = c.before.before.before in
+    let t = c.before.before in
     let a = (S t).args.coefficients.now in
     subst⁻¹ (λ (l : List ℤ). (length l ≤ length (S t).args.out.now) × Within 2147483647 l) (left t)
     (omega (arith, length-stuck (Lines t) a, (S t).requires.1.1.1.1), within_more (Left t) (omega arith) (within-stuck (Lines t) 2048000 a (few t) (S t).requires.1.1.0))
 
-same_length : tie.Need-same-length
+same_length : tie.Need-shape_of-work
 same_length c = search rules
 
-same-length-2 : tie.Need-same-length-2
+same-length-2 : tie.Need-shape_of-out
 same-length-2 c = search rules
 
 returns : tie.Need-returns
 returns c =
-    let t = c.before.before.before.before.before in
+    let t = c.before.before.before.before in
     c.before.narrow.ensures ∙ ap (λ (l : List ℤ). written l (S t).args.out.now) (left t)
 
-pub stuck-by-spec : {M : Type 1} → statement M
-stuck-by-spec =
+pub stuck_by_spec : {M : Type 1} → statement M
+stuck_by_spec =
     tie.close
     (tie.spec widen-requires stick-all-requires narrow-requires same_length same-length-2 returns)

@@ -8,5 +8,5 @@ returns : tie.Need-returns
 unfolding pair_of sub
 returns c = refl
 
-pub pair-of-spec : {M : Type 1} → statement M
-pair-of-spec = tie.close (tie.spec returns)
+pub pair_of_spec : {M : Type 1} → statement M
+pair_of_spec = tie.close (tie.spec returns)

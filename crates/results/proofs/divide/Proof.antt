@@ -17,70 +17,70 @@ use Rattle.results.proofs.Quotients.{quot-needs, quot-kept, length-quotients, nt
 use Rattle.results.proofs.divide.Statement.{statement}
 use Rattle.results.proofs.divide.Tie as tie
 
-abbrev invariant-loop : tie.invariant-loop
+abbrev invariant-loop : tie.invariant-loop-i
 invariant-loop sums divisor out₀ d i₀ out i = (i ≤ length sums) × (length out ≡ length out₀) × (out ≡ tab i (quotient_at divisor sums) ++ drop i out₀)
 
-abbrev decreases-loop : tie.decreases-loop
+abbrev decreases-loop : tie.decreases-loop-i
 decreases-loop sums divisor out₀ d i₀ out i = length sums - i
 
 -- the quotient at i fits 32 bits
-narrow : (l : tie.At-loop invariant-loop decreases-loop) → l.loop.i < length l.before.args.sums.now → SFits w32 (quotient_of l.before.args.divisor (nth l.before.args.sums.now l.loop.i))
+narrow : (l : tie.At-loop-i invariant-loop decreases-loop) → l.loop-i.i < length l.before.args.sums.now → SFits w32 (quotient_of l.before.args.divisor (nth l.before.args.sums.now l.loop-i.i))
 narrow l h =
     let a = l.before.args in
-    let small = l.before.requires.1.1 l.loop.i (omega (arith, length-quotients a.divisor a.sums.now)) in
-    let e = ap nat_abs (nth-quotients a.divisor a.sums.now l.loop.i h) in
+    let small = l.before.requires.1.1 l.loop-i.i (omega (arith, length-quotients a.divisor a.sums.now)) in
+    let e = ap nat_abs (nth-quotients a.divisor a.sums.now l.loop-i.i h) in
     sfits-abs (omega arith)
 
-cast-d : tie.Need-overflow-cast-d invariant-loop decreases-loop
+cast-d : tie.Need-overflow_cast-d invariant-loop decreases-loop
 cast-d c = search rules
 
-loop-holds : tie.Need-loop-init invariant-loop decreases-loop
+loop-holds : tie.Need-loop-i-init invariant-loop decreases-loop
 unfolding tab
 loop-holds c = (search rules, refl, refl)
 
-mul-sum : tie.Need-overflow-mul-sum invariant-loop decreases-loop
+mul-sum : tie.Need-offset_bounds-sums-i invariant-loop decreases-loop
 mul-sum c = search rules
 
-shared-slice-copy-out-sum : tie.Need-shared-slice-copy-out-sum invariant-loop decreases-loop
+shared-slice-copy-out-sum : tie.Need-bounds-sums-i invariant-loop decreases-loop
 shared-slice-copy-out-sum c = search rules
 
-div-quotient : tie.Need-nonzero-div-quotient invariant-loop decreases-loop
+div-quotient : tie.Need-nonzero_div-quotient invariant-loop decreases-loop
 div-quotient c =
     let l = c.before.before in
-    quot-needs w64 (omega arith) (nth l.before.args.sums.now l.loop.i) l.before.args.divisor c.sum.given l.before.requires.0
+    quot-needs w64 (omega arith) (nth l.before.args.sums.now l.loop-i.i) l.before.args.divisor c.sum-1.given l.before.requires.0
 
-cast-quotient : tie.Need-overflow-cast-quotient invariant-loop decreases-loop
+cast-quotient : tie.Need-overflow_cast-quotient invariant-loop decreases-loop
 cast-quotient c =
     let l = c.before.before in
-    subst⁻¹ (SFits w32) (quot-kept w64 (omega arith) (nth l.before.args.sums.now l.loop.i) l.before.args.divisor c.sum.given l.before.requires.0) (narrow l c.before.loop-test.true)
+    subst⁻¹ (SFits w32) (quot-kept w64 (omega arith) (nth l.before.args.sums.now l.loop-i.i) l.before.args.divisor c.sum-1.given l.before.requires.0) (narrow l c.before.loop-i-test.true)
 
-mul-quotient : tie.Need-overflow-mul-quotient invariant-loop decreases-loop
+mul-quotient : tie.Need-offset_bounds-out-i invariant-loop decreases-loop
 mul-quotient c = search rules
 
-slice-set-from-quotient : tie.Need-slice-set-from-quotient invariant-loop decreases-loop
+slice-set-from-quotient : tie.Need-bounds-out-i invariant-loop decreases-loop
 slice-set-from-quotient c = search rules
 
-add-i : tie.Need-overflow-add-i invariant-loop decreases-loop
+add-i : tie.Need-overflow_add-i invariant-loop decreases-loop
 add-i c = search rules
 
-loop-less : tie.Need-loop-smaller invariant-loop decreases-loop
+loop-less : tie.Need-loop-i-smaller invariant-loop decreases-loop
 loop-less c = search rules
 
-loop-again : tie.Need-loop-preserved invariant-loop decreases-loop
+loop-again : tie.Need-loop-i-preserved invariant-loop decreases-loop
 unfolding quotient_at
 loop-again c =
     let l = c.before.before in
     let a = l.before.args in
-    let i = l.loop.i in
+    let i = l.loop-i.i in
     let z = nth a.sums.now i in
-    let e = quot-kept w64 (omega arith) z a.divisor c.sum.given l.before.requires.0 in (
+    let e = quot-kept w64 (omega arith) z a.divisor c.sum-1.given l.before.requires.0 in (
       search rules,
-      length-set l.loop.out i _ ∙ l.loop.invariant.1,
-      write-turn a.out.now l.loop.out (quotient_at a.divisor a.sums.now) i _ (omega (arith, l.before.requires.1.0)) l.loop.invariant.2
-          (ap (λ (y : ℤ). to_z w32 (of_z w32 y)) e ∙ to_z-of_z w32 (quotient_of a.divisor z) (narrow l c.before.loop-test.true)),
+      length-set l.loop-i.out i _ ∙ l.loop-i.invariant.1,
+      write-turn a.out.now l.loop-i.out (quotient_at a.divisor a.sums.now) i _ (omega (arith, l.before.requires.1.0)) l.loop-i.invariant.2
+          (ap (λ (y : ℤ). to_z w32 (of_z w32 y)) e ∙ to_z-of_z w32 (quotient_of a.divisor z) (narrow l c.before.loop-i-test.true)),
     )
 
-same_length : tie.Need-same-length invariant-loop decreases-loop
+same_length : tie.Need-shape_of-out invariant-loop decreases-loop
 same_length c = search rules
 
 returns : tie.Need-returns invariant-loop decreases-loop
@@ -88,13 +88,13 @@ unfolding quotients_of
 returns c =
     let l = c.before in
     let a = l.before.args in
-    let n : l.loop.i ≡ length a.sums.now = omega arith in
+    let n : l.loop-i.i ≡ length a.sums.now = omega arith in
     let m : length a.sums.now ≡ length (quotients_of a.divisor a.sums.now) = sym (length-quotients a.divisor a.sums.now) in
-    l.loop.invariant.2 ∙ ap (λ (k : ℕ). tab k (quotient_at a.divisor a.sums.now) ++ drop k a.out.now) n
+    l.loop-i.invariant.2 ∙ ap (λ (k : ℕ). tab k (quotient_at a.divisor a.sums.now) ++ drop k a.out.now) n
     ∙ ap (λ (k : ℕ). quotients_of a.divisor a.sums.now ++ drop k a.out.now) m
 
-pub divide-spec : {M : Type 1} → statement M
-divide-spec =
+pub divide_spec : {M : Type 1} → statement M
+divide_spec =
     tie.close
     (tie.spec
     invariant-loop

@@ -9,14 +9,14 @@ use Rattle.results.proofs.Quotients.{unfit-back, divided-refused, fits_all, fit-
 use Rattle.results.proofs.divided.Statement.{statement}
 use Rattle.results.proofs.divided.Tie as tie
 
-first-unfit-requires : tie.Need-first-unfit-requires
+first-unfit-requires : tie.Need-first_unfit-first-requires
 first-unfit-requires c κs = search rules
 
 -- what `first_unfit` found
-found : (s : tie.After-first-unfit) → s.first-unfit.result ≡ first_unfit s.before.args.divisor s.before.args.low s.before.args.high s.before.args.sums.now
-found s = let a = s.before.args in s.first-unfit.ensures ∙ unfit-back a.divisor a.low a.high a.sums.now s.before.ranges.low s.before.ranges.high
+found : (s : tie.After-first_unfit-first) → s.first_unfit-first.result ≡ first_unfit s.before.args.divisor s.before.args.low s.before.args.high s.before.args.sums.now
+found s = let a = s.before.args in s.first_unfit-first.ensures ∙ unfit-back a.divisor a.low a.high a.sums.now s.before.ranges.low s.before.ranges.high
 
-returns : tie.Need-returns
+returns : tie.Need-returns-then-first-sums
 returns c =
     let a = c.before.before.args in
     let e = found c.before in
@@ -30,15 +30,15 @@ divide-requires c κs =
     let all = fits_all a.divisor a.low a.high a.sums.now (omega arith) in
     (s.requires.0, (s.requires.1.1, λ x l. le_trans (within-quotients a.divisor a.low a.high a.sums.now all x l) s.requires.1.0))
 
-same_length : tie.Need-same-length
+same_length : tie.Need-shape_of-out
 same_length c = search rules
 
-returns-2 : tie.Need-returns-2
+returns-2 : tie.Need-returns
 returns-2 c =
     let a = c.before.before.before.before.before.args in
     let e = found c.before.before.before.before in
     (sym (fit-done a.divisor a.low a.high a.sums.now (omega arith)), c.before.divide.ensures)
 
-pub divided-spec : {M : Type 1} → statement M
-divided-spec =
+pub divided_spec : {M : Type 1} → statement M
+divided_spec =
     tie.close (tie.spec first-unfit-requires returns divide-requires same_length returns-2)

@@ -16,65 +16,65 @@ use Rattle.results.proofs.Copies.{copied}
 use Rattle.results.proofs.narrow.Statement.{statement}
 use Rattle.results.proofs.narrow.Tie as tie
 
-abbrev invariant-loop : tie.invariant-loop
+abbrev invariant-loop : tie.invariant-loop-i
 invariant-loop work out₀ i₀ out i = (i ≤ length work) × (length out ≡ length out₀) × (out ≡ tab i (nth work) ++ drop i out₀)
 
-abbrev decreases-loop : tie.decreases-loop
+abbrev decreases-loop : tie.decreases-loop-i
 decreases-loop work out₀ i₀ out i = length work - i
 
-loop-holds : tie.Need-loop-init invariant-loop decreases-loop
+loop-holds : tie.Need-loop-i-init invariant-loop decreases-loop
 unfolding tab
 loop-holds c = (search rules, refl, refl)
 
-mul-z : tie.Need-overflow-mul-z invariant-loop decreases-loop
+mul-z : tie.Need-offset_bounds-work-i invariant-loop decreases-loop
 mul-z c = search rules
 
-shared-slice-copy-out-z : tie.Need-shared-slice-copy-out-z invariant-loop decreases-loop
+shared-slice-copy-out-z : tie.Need-bounds-work-i invariant-loop decreases-loop
 shared-slice-copy-out-z c = search rules
 
-cast-z : tie.Need-overflow-cast-z invariant-loop decreases-loop
+cast-z : tie.Need-overflow_cast-z invariant-loop decreases-loop
 cast-z c =
     let l = c.before.before in
     let a = l.before.args in
-    let i = l.loop.i in
+    let i = l.loop-i.i in
     let z = nth a.work.now i in
-    subst⁻¹ (SFits w32) (to_z-of_z w64 z (record { sfits = c.z.given })) (sfits-abs (omega (arith, l.before.requires.1 i c.before.loop-test.true)))
+    subst⁻¹ (SFits w32) (to_z-of_z w64 z (record { sfits = c.z-1.given })) (sfits-abs (omega (arith, l.before.requires.1 i c.before.loop-i-test.true)))
 
-mul-z-2 : tie.Need-overflow-mul-z-2 invariant-loop decreases-loop
+mul-z-2 : tie.Need-offset_bounds-out-i invariant-loop decreases-loop
 mul-z-2 c = search rules
 
-slice-set-from-z : tie.Need-slice-set-from-z invariant-loop decreases-loop
+slice-set-from-z : tie.Need-bounds-out-i invariant-loop decreases-loop
 slice-set-from-z c = search rules
 
-add-i : tie.Need-overflow-add-i invariant-loop decreases-loop
+add-i : tie.Need-overflow_add-i invariant-loop decreases-loop
 add-i c = search rules
 
-loop-less : tie.Need-loop-smaller invariant-loop decreases-loop
+loop-less : tie.Need-loop-i-smaller invariant-loop decreases-loop
 loop-less c = search rules
 
-loop-again : tie.Need-loop-preserved invariant-loop decreases-loop
+loop-again : tie.Need-loop-i-preserved invariant-loop decreases-loop
 loop-again c =
     let l = c.before.before in
     let a = l.before.args in
-    let i = l.loop.i in
+    let i = l.loop-i.i in
     let z = nth a.work.now i in (
       search rules,
-      length-set l.loop.out i _ ∙ l.loop.invariant.1,
-      write-turn a.out.now l.loop.out (nth a.work.now) i _ (omega (arith, l.before.requires.0)) l.loop.invariant.2
-          (recast w64 w32 z (record { sfits = c.z.given }) (sfits-abs (omega (arith, l.before.requires.1 i c.before.loop-test.true)))),
+      length-set l.loop-i.out i _ ∙ l.loop-i.invariant.1,
+      write-turn a.out.now l.loop-i.out (nth a.work.now) i _ (omega (arith, l.before.requires.0)) l.loop-i.invariant.2
+          (recast w64 w32 z (record { sfits = c.z-1.given }) (sfits-abs (omega (arith, l.before.requires.1 i c.before.loop-i-test.true)))),
     )
 
-same_length : tie.Need-same-length invariant-loop decreases-loop
+same_length : tie.Need-shape_of-out invariant-loop decreases-loop
 same_length c = search rules
 
 returns : tie.Need-returns invariant-loop decreases-loop
 returns c =
     let l = c.before in
     let a = l.before.args in
-    l.loop.invariant.2 ∙ copied a.work.now a.out.now l.loop.i (omega arith)
+    l.loop-i.invariant.2 ∙ copied a.work.now a.out.now l.loop-i.i (omega arith)
 
-pub narrow-spec : {M : Type 1} → statement M
-narrow-spec =
+pub narrow_spec : {M : Type 1} → statement M
+narrow_spec =
     tie.close
     (tie.spec
     invariant-loop

@@ -15,62 +15,62 @@ use Rattle.results.proofs.Copies.{copied, all-copied}
 use Rattle.results.proofs.widen.Statement.{statement}
 use Rattle.results.proofs.widen.Tie as tie
 
-abbrev invariant-loop : tie.invariant-loop
+abbrev invariant-loop : tie.invariant-loop-i
 invariant-loop list work₀ i₀ work i = (i ≤ length list) × (length work ≡ length work₀) × (work ≡ tab i (nth list) ++ drop i work₀)
 
-abbrev decreases-loop : tie.decreases-loop
+abbrev decreases-loop : tie.decreases-loop-i
 decreases-loop list work₀ i₀ work i = length list - i
 
-loop-holds : tie.Need-loop-init invariant-loop decreases-loop
+loop-holds : tie.Need-loop-i-init invariant-loop decreases-loop
 unfolding tab
 loop-holds c = (search rules, refl, refl)
 
-mul-z : tie.Need-overflow-mul-z invariant-loop decreases-loop
+mul-z : tie.Need-offset_bounds-list-i invariant-loop decreases-loop
 mul-z c = search rules
 
-shared-slice-copy-out-z : tie.Need-shared-slice-copy-out-z invariant-loop decreases-loop
+shared-slice-copy-out-z : tie.Need-bounds-list-i invariant-loop decreases-loop
 shared-slice-copy-out-z c = search rules
 
-cast-z : tie.Need-overflow-cast-z invariant-loop decreases-loop
+cast-z : tie.Need-overflow_cast-z invariant-loop decreases-loop
 cast-z c =
     let l = c.before.before in
     let a = l.before.args in
-    let i = l.loop.i in
+    let i = l.loop-i.i in
     let z = nth a.list.now i in
-    subst⁻¹ (SFits w64) (to_z-of_z w32 z (record { sfits = c.z.given })) (record { sfits = omega (arith, c.z.given) })
+    subst⁻¹ (SFits w64) (to_z-of_z w32 z (record { sfits = c.z-1.given })) (record { sfits = omega (arith, c.z-1.given) })
 
-mul-z-2 : tie.Need-overflow-mul-z-2 invariant-loop decreases-loop
+mul-z-2 : tie.Need-offset_bounds-work-i invariant-loop decreases-loop
 mul-z-2 c = search rules
 
-slice-set-from-z : tie.Need-slice-set-from-z invariant-loop decreases-loop
+slice-set-from-z : tie.Need-bounds-work-i invariant-loop decreases-loop
 slice-set-from-z c = search rules
 
-add-i : tie.Need-overflow-add-i invariant-loop decreases-loop
+add-i : tie.Need-overflow_add-i invariant-loop decreases-loop
 add-i c = search rules
 
-loop-less : tie.Need-loop-smaller invariant-loop decreases-loop
+loop-less : tie.Need-loop-i-smaller invariant-loop decreases-loop
 loop-less c = search rules
 
-loop-again : tie.Need-loop-preserved invariant-loop decreases-loop
+loop-again : tie.Need-loop-i-preserved invariant-loop decreases-loop
 loop-again c =
     let l = c.before.before in
     let a = l.before.args in
-    let i = l.loop.i in
+    let i = l.loop-i.i in
     let z = nth a.list.now i in (
       search rules,
-      length-set l.loop.work i _ ∙ l.loop.invariant.1,
-      write-turn a.work.now l.loop.work (nth a.list.now) i _ (omega (arith, l.before.requires)) l.loop.invariant.2
-          (recast w32 w64 z (record { sfits = c.z.given }) (record { sfits = omega (arith, c.z.given) })),
+      length-set l.loop-i.work i _ ∙ l.loop-i.invariant.1,
+      write-turn a.work.now l.loop-i.work (nth a.list.now) i _ (omega (arith, l.before.requires)) l.loop-i.invariant.2
+          (recast w32 w64 z (record { sfits = c.z-1.given }) (record { sfits = omega (arith, c.z-1.given) })),
     )
 
-same_length : tie.Need-same-length invariant-loop decreases-loop
+same_length : tie.Need-shape_of-work invariant-loop decreases-loop
 same_length c = search rules
 
 returns : tie.Need-returns invariant-loop decreases-loop
 returns c =
     let l = c.before in
     let a = l.before.args in
-    l.loop.invariant.2 ∙ copied a.list.now a.work.now l.loop.i (omega arith) ∙ all-copied a.list.now a.work.now l.before.requires
+    l.loop-i.invariant.2 ∙ copied a.list.now a.work.now l.loop-i.i (omega arith) ∙ all-copied a.list.now a.work.now l.before.requires
 
 pub widen_spec : {M : Type 1} → statement M
 widen_spec =

@@ -11,43 +11,43 @@ use Rattle.cover.proofs.Marking.{no-mask, all_none}
 use Rattle.cover.proofs.marks.clear.Statement.{statement}
 use Rattle.cover.proofs.marks.clear.Tie as tie
 
-abbrev invariant-loop : tie.invariant-loop
+abbrev invariant-loop : tie.invariant-loop-i
 invariant-loop masks₀ i₀ masks i = (i ≤ length masks₀) × (length masks ≡ length masks₀) × (masks ≡ tab i no-mask ++ drop i masks₀)
 
-abbrev decreases-loop : tie.decreases-loop
+abbrev decreases-loop : tie.decreases-loop-i
 decreases-loop masks₀ i₀ masks i = length masks₀ - i
 
-loop-holds : tie.Need-loop-init invariant-loop decreases-loop
+loop-holds : tie.Need-loop-i-init invariant-loop decreases-loop
 unfolding tab
 loop-holds c = (search rules, refl, refl)
 
-mul-masks : tie.Need-overflow-mul-masks invariant-loop decreases-loop
+mul-masks : tie.Need-offset_bounds-masks-i invariant-loop decreases-loop
 mul-masks c = search rules
 
-slice-write-masks : tie.Need-slice-write-masks invariant-loop decreases-loop
+slice-write-masks : tie.Need-bounds-masks-i invariant-loop decreases-loop
 slice-write-masks c = search rules
 
-add-i : tie.Need-overflow-add-i invariant-loop decreases-loop
+add-i : tie.Need-overflow_add-i invariant-loop decreases-loop
 add-i c = search rules
 
-loop-less : tie.Need-loop-smaller invariant-loop decreases-loop
+loop-less : tie.Need-loop-i-smaller invariant-loop decreases-loop
 loop-less c = search rules
 
-loop-again : tie.Need-loop-preserved invariant-loop decreases-loop
+loop-again : tie.Need-loop-i-preserved invariant-loop decreases-loop
 loop-again c =
     let l = c.before in
     let d = l.before.args.masks.now in
-    let i = l.loop.i in
-    (search rules, simp length-set l.loop.invariant.1, ap (λ (m : List ℕ). set m i 0) l.loop.invariant.2 ∙ tab-step d no-mask 0 i (omega arith))
+    let i = l.loop-i.i in
+    (search rules, simp length-set l.loop-i.invariant.1, ap (λ (m : List ℕ). set m i 0) l.loop-i.invariant.2 ∙ tab-step d no-mask 0 i (omega arith))
 
-same_length : tie.Need-same-length invariant-loop decreases-loop
+same_length : tie.Need-shape_of-masks invariant-loop decreases-loop
 same_length c = search rules
 
 returns : tie.Need-returns invariant-loop decreases-loop
 returns c =
     let l = c.before in
     let d = l.before.args.masks.now in
-    l.loop.invariant.2 ∙ filled no-mask d l.loop.i (omega arith) ∙ all_none (length d)
+    l.loop-i.invariant.2 ∙ filled no-mask d l.loop-i.i (omega arith) ∙ all_none (length d)
 
 pub clear_spec : {M : Type 1} → statement M
 clear_spec =

@@ -19,78 +19,78 @@ use Rattle.cover.specs.Steps.{row_difference_at, differences}
 use Rattle.cover.proofs.marks.differ.Statement.{statement}
 use Rattle.cover.proofs.marks.differ.Tie as tie
 
-abbrev invariant-loop : tie.invariant-loop
+abbrev invariant-loop : tie.invariant-loop-i
 invariant-loop sound faulted out₀ same₀ i₀ out same i =
     (i ≤ length sound) × (length out ≡ length out₀) × (out ≡ tab i (row_difference_at sound faulted) ++ drop i out₀) × (same ≡ all_below (same_at sound faulted) i)
 
-abbrev decreases-loop : tie.decreases-loop
+abbrev decreases-loop : tie.decreases-loop-i
 decreases-loop sound faulted out₀ same₀ i₀ out same i = length sound - i
 
-loop-holds : tie.Need-loop-init invariant-loop decreases-loop
+loop-holds : tie.Need-loop-i-init invariant-loop decreases-loop
 unfolding tab all_below
 loop-holds c = (search rules, refl, refl, refl)
 
-mul-a : tie.Need-overflow-mul-a invariant-loop decreases-loop
+mul-a : tie.Need-offset_bounds-sound-i invariant-loop decreases-loop
 mul-a c = search rules
 
-shared-slice-copy-out-a : tie.Need-shared-slice-copy-out-a invariant-loop decreases-loop
+shared-slice-copy-out-a : tie.Need-bounds-sound-i invariant-loop decreases-loop
 shared-slice-copy-out-a c = search rules
 
-mul-b : tie.Need-overflow-mul-b invariant-loop decreases-loop
+mul-b : tie.Need-offset_bounds-faulted-i invariant-loop decreases-loop
 mul-b c = search rules
 
-shared-slice-copy-out-b : tie.Need-shared-slice-copy-out-b invariant-loop decreases-loop
+shared-slice-copy-out-b : tie.Need-bounds-faulted-i invariant-loop decreases-loop
 shared-slice-copy-out-b c = search rules
 
 -- in a turn: the two rows' values
-module _ (c : tie.After-b invariant-loop decreases-loop) where
+module _ (c : tie.After-b-1 invariant-loop decreases-loop) where
   abbrev A : ℤ
-  A = nth c.before.before.before.before.args.sound.now c.before.before.before.loop.i
+  A = nth c.before.before.before.before.args.sound.now c.before.before.before.loop-i.i
 
   abbrev B : ℤ
-  B = nth c.before.before.before.before.args.faulted.now c.before.before.before.loop.i
+  B = nth c.before.before.before.before.args.faulted.now c.before.before.before.loop-i.i
 
   fits-a : SFits w32 A
-  fits-a = record { sfits = c.before.a.given }
+  fits-a = record { sfits = c.before.a-1.given }
 
   fits-b : SFits w32 B
-  fits-b = record { sfits = c.b.given }
+  fits-b = record { sfits = c.b-1.given }
 
-cast-d : tie.Need-overflow-cast-d invariant-loop decreases-loop
-cast-d c = widens w32 w64 (A c) (fits-a c) (record { sfits = omega (arith, c.before.a.given) })
+cast-d : tie.Need-overflow_cast-d invariant-loop decreases-loop
+cast-d c = widens w32 w64 (A c) (fits-a c) (record { sfits = omega (arith, c.before.a-1.given) })
 
-cast-d-2 : tie.Need-overflow-cast-d-2 invariant-loop decreases-loop
-cast-d-2 c = widens w32 w64 (B c) (fits-b c) (record { sfits = omega (arith, c.b.given) })
+cast-d-2 : tie.Need-overflow_cast-d-in-loop-i invariant-loop decreases-loop
+cast-d-2 c = widens w32 w64 (B c) (fits-b c) (record { sfits = omega (arith, c.b-1.given) })
 
-sub-d : tie.Need-overflow-sub-d invariant-loop decreases-loop
+sub-d : tie.Need-overflow_sub-d invariant-loop decreases-loop
 sub-d c = less-fits (A c) (B c) (fits-a c) (fits-b c)
 
-mul-d : tie.Need-overflow-mul-d invariant-loop decreases-loop
+mul-d : tie.Need-offset_bounds-out-i invariant-loop decreases-loop
 mul-d c = search rules
 
-slice-set-from-d : tie.Need-slice-set-from-d invariant-loop decreases-loop
+slice-set-from-d : tie.Need-bounds-out-i invariant-loop decreases-loop
 slice-set-from-d c = search rules
 
-add-i : tie.Need-overflow-add-i invariant-loop decreases-loop
+add-i : tie.Need-overflow_add-i invariant-loop decreases-loop
 add-i c = search rules
 
-loop-less : tie.Need-loop-smaller invariant-loop decreases-loop
+loop-less : tie.Need-loop-i-smaller invariant-loop decreases-loop
 loop-less c = search rules
 
-loop-again : tie.Need-loop-preserved invariant-loop decreases-loop
+loop-again : tie.Need-loop-i-preserved invariant-loop decreases-loop
 unfolding same_at row_difference_at
 loop-again c =
     let l = c.before.before.before in
     let a = l.before.args in
-    let i = l.loop.i in
+    let i = l.loop-i.i in
     let f = row_difference_at a.sound.now a.faulted.now in (
       search rules,
-      simp length-set l.loop.invariant.1,
-      write-turn a.out.now l.loop.out f i _ (omega arith) l.loop.invariant.2 (less-kept (A c) (B c) (fits-a c) (fits-b c)),
-      all_more (same_at a.sound.now a.faulted.now) i l.loop.same _ l.loop.invariant.3 (less_none (A c) (B c) (fits-a c) (fits-b c)),
+      simp length-set l.loop-i.invariant.1,
+      write-turn a.out.now l.loop-i.out f i _ (omega arith) l.loop-i.invariant.2 (less-kept (A c) (B c) (fits-a c) (fits-b c)),
+      all_more (same_at a.sound.now a.faulted.now) i l.loop-i.same _ l.loop-i.invariant.3 (less_none (A c) (B c) (fits-a c) (fits-b c)),
     )
 
-same_length : tie.Need-same-length invariant-loop decreases-loop
+same_length : tie.Need-shape_of-out invariant-loop decreases-loop
 same_length c = search rules
 
 returns : tie.Need-returns invariant-loop decreases-loop
@@ -99,14 +99,14 @@ returns c =
     let l = c.before in
     let a = l.before.args in
     let f = row_difference_at a.sound.now a.faulted.now in
-    let e : l.loop.i ≡ length a.sound.now = omega arith in
+    let e : l.loop-i.i ≡ length a.sound.now = omega arith in
     let same = l.before.requires.1 in (
-      l.loop.invariant.3 ∙ ap (all_below (same_at a.sound.now a.faulted.now)) e,
-      l.loop.invariant.2 ∙ filled f a.out.now l.loop.i (omega arith) ∙ ap (λ (n : ℕ). tab n f) same,
+      l.loop-i.invariant.3 ∙ ap (all_below (same_at a.sound.now a.faulted.now)) e,
+      l.loop-i.invariant.2 ∙ filled f a.out.now l.loop-i.i (omega arith) ∙ ap (λ (n : ℕ). tab n f) same,
     )
 
-pub differ-spec : {M : Type 1} → statement M
-differ-spec =
+pub differ_spec : {M : Type 1} → statement M
+differ_spec =
     tie.close
     (tie.spec
     invariant-loop

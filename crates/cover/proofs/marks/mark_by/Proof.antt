@@ -14,16 +14,16 @@ use Rattle.cover.proofs.marks.mark_by.Tie as tie
 differ-requires : tie.Need-differ-requires
 differ-requires c κs = search rules
 
-same_length : tie.Need-same-length
+same_length : tie.Need-shape_of-work-then-differ
 same_length c = search rules
 
-returns : tie.Need-returns
-returns c = let d = c.before.before.differ in (sym c.if1.true ∙ d.ensures.0, λ e. clash e)
+returns : tie.Need-returns-then-differ
+returns c = let d = c.differ in (sym c.if-differ.true ∙ d.ensures.0, λ e. clash e)
 
 transform-requires : tie.Need-transform-requires
 transform-requires c κs =
-    let d = c.before.before.before.differ in
-    let l = c.before.before.before.before.before.before.before in
+    let d = c.differ in
+    let l = c in
     let a = l.args in
     let even = l.requires.0.3 in (
       omega arith,
@@ -33,14 +33,14 @@ transform-requires c κs =
       ),
     )
 
-shl-add-marks : tie.Need-overflow-shl-add-marks
+shl-add-marks : tie.Need-overflow_shl-fault
 shl-add-marks c = search rules
 
-add-marks-requires : tie.Need-add-marks-requires
+add-marks-requires : tie.Need-add_marks-requires
 add-marks-requires c κs =
-    let t = c.before.before.before.transform in
-    let d = c.before.before.before.before.before.before.before.differ in
-    let l = c.before.before.before.before.before.before.before.before.before.before.before in
+    let t = c.transform in
+    let d = c.differ in
+    let l = c in
     let a = l.args in
     let size = spectrum-length a.sound.now a.faulted.now _ l.requires.0.3 d.ensures.1 _ t.ensures in
     let bit = bit_is 32 a.fault l.requires.0.1 in
@@ -49,19 +49,19 @@ add-marks-requires c κs =
       (λ i h. subst (λ (n : ℕ). get_or a.masks.now i 0 < n) (sym bit) (l.requires.1.1.0.1 i h), subst (λ (n : ℕ). n ≤ 2 ^ 31) (sym bit) (pow_mono last)),
     )
 
-same-length-2 : tie.Need-same-length-2
+same-length-2 : tie.Need-shape_of-work
 same-length-2 c = search rules
 
-same-length-3 : tie.Need-same-length-3
+same-length-3 : tie.Need-shape_of-masks
 same-length-3 c = search rules
 
-returns-2 : tie.Need-returns-2
+returns-2 : tie.Need-returns
 returns-2 c =
-    let m = c.before.before.add-marks in
-    let t = c.before.before.before.before.before.before.transform in
-    let i = c.before.before.before.before.before.before.before.before.if1 in
-    let d = c.before.before.before.before.before.before.before.before.before.before.differ in
-    let l = c.before.before.before.before.before.before.before.before.before.before.before.before.before.before in
+    let m = c.add_marks in
+    let t = c.transform in
+    let i = c.if-differ in
+    let d = c.differ in
+    let l = c in
     let a = l.args in (
       sym i.false ∙ d.ensures.0,
       λ _. m.ensures
@@ -69,8 +69,8 @@ returns-2 c =
           (l.requires.1.0.0 ∙ sym l.requires.1.0.1) l.requires.1.1.0.0,
     )
 
-pub mark-by-spec : {M : Type 1} → statement M
-mark-by-spec =
+pub mark_by_spec : {M : Type 1} → statement M
+mark_by_spec =
     tie.close
     (tie.spec
     differ-requires

@@ -10,6 +10,6 @@ unfolding gate_value bits_of bits_to
 value_spec =
     tie.close
     (tie.spec
-    (λ c. case-is Not c.match.keys1)
-    (λ c. case-is Not c.match.keys2)
-    (λ c. absurd (none_of 2 _ 2 c.match.rest c.before.requires)))
+    (λ c. case-is Not c.in-2.is)
+    (λ c. case-is Not c.in-3.is)
+    (λ c. absurd (none_of 2 _ 2 c.in_default.in_default-own.rest c.requires)))

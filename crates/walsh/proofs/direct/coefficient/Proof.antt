@@ -21,31 +21,31 @@ screen-requires c κs = search rules
 answered : (s : tie.After-screen) → s.screen.result ≡ screen_of (minus 1000) (pos 1000) (ltb s.before.args.label (length s.before.args.rows.now)) s.before.args.rows.now 0 0
 answered s = s.screen.ensures
 
-enum-known-number : tie.Need-enum-known-number
+enum-known-number : tie.Need-enum_known-number
 enum-known-number c = search rules
 
-enum_told : tie.Need-enum-told
+enum_told : tie.Need-enum_told-1
 enum_told c = search rules
 
-signed-sum-requires : tie.Need-signed-sum-requires
+signed-sum-requires : tie.Need-signed_sum-requires
 signed-sum-requires c κs =
-    let a = c.before.before.before.args in
-    let s = screen-done (minus 1000) (pos 1000) (ltb a.label (length a.rows.now)) a.rows.now 0 0 (sym (answered c.before.before) ∙ c.enum_told.given.1) in
+    let a = c.args in
+    let s = screen-done (minus 1000) (pos 1000) (ltb a.label (length a.rows.now)) a.rows.now 0 0 (sym (answered c.before) ∙ c.in-Done.is) in
     (inputs-size (length a.rows.now) s.sized, screened-within 1000 a.rows.now s.inside)
 
-returns : tie.Need-returns
+returns : tie.Need-returns-in-Refused
 unfolding found_of
 returns c =
-    let a = c.before.before.before.before.args in
-    ap (λ (r : Answer). found r (coefficient_of a.rows.now a.label)) (sym c.before.number.given.1 ∙ answered c.before.before.before)
+    let a = c.args in
+    ap (λ (r : Answer). found r (coefficient_of a.rows.now a.label)) (sym c.in-Refused.is ∙ answered c.before)
 
-returns-2 : tie.Need-returns-2
+returns-2 : tie.Need-returns-in-Done
 unfolding found_of
 returns-2 c =
-    ap₂ found (sym c.before.enum_told.given.1 ∙ answered c.before.before.before)
-    (to_z-of_z w32 c.signed-sum.result (record { sfits = c.signed-sum.type-inv }) ∙ c.signed-sum.ensures)
+    ap₂ found (sym c.in-Done.is ∙ answered c.before.before)
+    (to_z-of_z w32 c.signed_sum.result (record { sfits = c.signed_sum.type_inv }) ∙ c.signed_sum.ensures)
 
-pub coefficient-spec : {M : Type 1} → statement M
-coefficient-spec =
+pub coefficient_spec : {M : Type 1} → statement M
+coefficient_spec =
     tie.close
     (tie.spec screen-requires enum-known-number enum_told signed-sum-requires returns returns-2)

@@ -19,37 +19,37 @@ use Rattle.walsh.proofs.lists.rows.Tie as tie
 screen-requires : tie.Need-screen-requires
 screen-requires c κs = search rules
 
-enum-known-number : tie.Need-enum-known-number
+enum-known-number : tie.Need-enum_known-number
 enum-known-number c = search rules
 
-enum_told : tie.Need-enum-told
+enum_told : tie.Need-enum_told-1
 enum_told c = search rules
 
-inputs-of-requires : tie.Need-inputs-of-requires
+inputs-of-requires : tie.Need-inputs_of-requires
 inputs-of-requires c κs = search rules
 
 -- where the screen answered Done
-module _ (t : tie.After-enum-told) where
+module _ (t : tie.In-Done) where
   abbrev S : tie.Start
-  S = t.before.before.before
+  S = t.before.before
 
   answered : Done ≡ screen_of (minus 2048000) (pos 2048000) true S.args.coefficients.now (length S.args.out.now) (length S.args.coefficients.now)
-  answered = sym t.enum_told.given.1 ∙ t.before.before.screen.ensures
+  answered = sym t.in-Done.is ∙ t.screen.ensures
 
   known : Ready 2048000 true S.args.coefficients.now (length S.args.out.now) (length S.args.coefficients.now)
   known = ready 2048000 true S.args.coefficients.now (length S.args.out.now) (length S.args.coefficients.now) (sym answered)
 
-array-borrow-prefix-work : tie.Need-array-borrow-prefix-work
+array-borrow-prefix-work : tie.Need-slice_bounds-work-end
 array-borrow-prefix-work c = (known c.before).few
 
-slice-aggregate-rows-by : tie.Need-slice-aggregate-rows-by
+slice-aggregate-rows-by : tie.Need-slice_bounds-rows_by-end
 slice-aggregate-rows-by c = sym (length-take-le _ _ (known c.before.before).few)
 
-rows-by-requires : tie.Need-rows-by-requires
+rows-by-requires : tie.Need-rows_by-requires
 rows-by-requires c κs =
     let t = c.before.before.before in
     let k = known t in (
-      subst⁻¹ (λ (n : ℕ). (n ≤ 11) × (length (S t).args.coefficients.now ≡ 2 ^ n)) c.before.before.inputs-of.ensures (k.most, k.power),
+      subst⁻¹ (λ (n : ℕ). (n ≤ 11) × (length (S t).args.coefficients.now ≡ 2 ^ n)) c.before.before.inputs_of.ensures (k.most, k.power),
       (k.within, (length-take-le _ _ k.few, k.fits)),
     )
 
@@ -57,23 +57,23 @@ rows-by-requires c κs =
 after : (s : tie.Start) → Answer
 after s = divided_answer (length s.args.coefficients.now) (minus 1000) (pos 1000) (spectrum_of s.args.coefficients.now)
 
-returns : tie.Need-returns
+returns : tie.Need-returns-in-Refused
 unfolding rows_answer after
 returns c =
-    let s = c.before.before.before.before in
-    (ap (λ (a : Answer). and_then a (after s)) (sym c.before.number.given.1 ∙ c.before.before.before.screen.ensures), refl)
+    let s = c.before.before in
+    (ap (λ (a : Answer). and_then a (after s)) (sym c.in-Refused.is ∙ c.screen.ensures), refl)
 
-same_length : tie.Need-same-length
+same_length : tie.Need-shape_of-out
 same_length c = search rules
 
-returns-2 : tie.Need-returns-2
+returns-2 : tie.Need-returns-in-Done
 unfolding rows_answer after
 returns-2 c =
     let t = c.before.before.before.before.before.before in
-    (c.before.before.rows-by.ensures.0 ∙ ap (λ (a : Answer). and_then a (after (S t))) (answered t), c.before.before.rows-by.ensures.1)
+    (c.before.before.rows_by.ensures.0 ∙ ap (λ (a : Answer). and_then a (after (S t))) (answered t), c.before.before.rows_by.ensures.1)
 
-pub rows-spec : {M : Type 1} → statement M
-rows-spec =
+pub rows_spec : {M : Type 1} → statement M
+rows_spec =
     tie.close
     (tie.spec
     screen-requires

@@ -32,12 +32,12 @@ module _ (t : tie.After-transform) where
   abbrev S : tie.Start
   S = t.before.before.before.before.before
 
-  transformed : t.transform.last.0 ≡ spectrum_of S.args.coefficients.now
+  transformed : t.transform.new.a ≡ spectrum_of S.args.coefficients.now
   transformed = t.transform.ensures ∙ ap spectrum_of t.before.before.before.widen.ensures
 
 divided-requires : tie.Need-divided-requires
 divided-requires c κs =
-    let t = c.before.before.before in
+    let t = c.before.before in
     let coefficients = (S t).args.coefficients.now in
     let some : 1 ≤ length coefficients = omega (arith, pow_pos (S t).args.inputs, (S t).requires.0.1) in
     let few = power-few (length coefficients) (S t).args.inputs (S t).requires.0.0 (S t).requires.0.1 in (
@@ -45,22 +45,22 @@ divided-requires c κs =
       (omega arith, subst⁻¹ (λ (l : List ℤ). length l ≤ length (S t).args.out.now) (transformed t) (omega (arith, length-spectrum coefficients, (S t).requires.1.1.1))),
     )
 
-same_length : tie.Need-same-length
+same_length : tie.Need-shape_of-work
 same_length c = search rules
 
-same-length-2 : tie.Need-same-length-2
+same-length-2 : tie.Need-shape_of-out
 same-length-2 c = search rules
 
 returns : tie.Need-returns
 unfolding inverse_rows
 returns c =
-    let t = c.before.before.before.before.before in
+    let t = c.before.before.before.before in
     let n = length (S t).args.coefficients.now in (
       c.before.divided.ensures.0 ∙ ap (divided_answer n (minus 1000) (pos 1000)) (transformed t),
       c.before.divided.ensures.1 ∙ ap (λ (l : List ℤ). leaves c.before.divided.result (quotients_of n l) (S t).args.out.now) (transformed t),
     )
 
-pub rows-by-spec : {M : Type 1} → statement M
-rows-by-spec =
+pub rows_by_spec : {M : Type 1} → statement M
+rows_by_spec =
     tie.close
     (tie.spec widen-requires transform-requires divided-requires same_length same-length-2 returns)

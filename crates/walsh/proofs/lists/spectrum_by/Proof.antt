@@ -29,29 +29,29 @@ module _ (t : tie.After-transform) where
   abbrev S : tie.Start
   S = t.before.before.before.before.before
 
-  transformed : t.transform.last.0 ≡ spectrum_of S.args.rows.now
+  transformed : t.transform.new.a ≡ spectrum_of S.args.rows.now
   transformed = t.transform.ensures ∙ ap spectrum_of t.before.before.before.widen.ensures
 
 narrow-requires : tie.Need-narrow-requires
 narrow-requires c κs =
-    let t = c.before.before.before in
+    let t = c.before.before in
     let rows = (S t).args.rows.now in
     let few = power-few (length rows) (S t).args.inputs (S t).requires.0.0 (S t).requires.0.1 in
     subst⁻¹ (λ (l : List ℤ). (length l ≤ length (S t).args.out.now) × Within 2147483647 l) (transformed t)
     (omega (arith, length-spectrum rows, (S t).requires.1.1.1), within_more (spectrum_of rows) (omega arith) (within-spectrum 1000 rows (S t).requires.1.0))
 
-same_length : tie.Need-same-length
+same_length : tie.Need-shape_of-work
 same_length c = search rules
 
-same-length-2 : tie.Need-same-length-2
+same-length-2 : tie.Need-shape_of-out
 same-length-2 c = search rules
 
 returns : tie.Need-returns
 returns c =
-    let t = c.before.before.before.before.before in
+    let t = c.before.before.before.before in
     c.before.narrow.ensures ∙ ap (λ (l : List ℤ). written l (S t).args.out.now) (transformed t)
 
-pub spectrum-by-spec : {M : Type 1} → statement M
-spectrum-by-spec =
+pub spectrum_by_spec : {M : Type 1} → statement M
+spectrum_by_spec =
     tie.close
     (tie.spec widen-requires transform-requires narrow-requires same_length same-length-2 returns)
