@@ -71,7 +71,7 @@ loop-again c =
       search rules,
       length-set l.loop-x.out l.loop-x.x _ ∙ l.loop-x.invariant.1,
       write-turn s.args.out.now l.loop-x.out (masked_row s.args.t s.args.f.bridge _ _) l.loop-x.x _ (omega arith) l.loop-x.invariant.2
-          (to_z-of_z w32 c.wide.result (record { sfits = c.wide.type-inv }) ∙ c.wide.ensures ∙ ap row b.ensures.0),
+          (to_z-of_z w32 c.wide.result (record { sfits = c.wide.type_inv }) ∙ c.wide.ensures ∙ ap row b.ensures.0),
     )
 
 same_length : tie.Need-shape_of-out invariant-loop decreases-loop
