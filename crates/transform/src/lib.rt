@@ -68,6 +68,9 @@ fn sixteen(a: &mut [i64])
     butterfly(a, 8);
 }
 
+// Where the recursion ends: at sixteen numbers.
+const STRAIGHT_INPUTS: u32 = 4;
+
 // The spectrum of the 2^inputs numbers of `a`, in place.
 pub fn transform(a: &mut [i64], inputs: u32)
     requires inputs_bound { inputs ≤ 11 }
@@ -78,7 +81,7 @@ pub fn transform(a: &mut [i64], inputs: u32)
     if inputs == 0 {
         return;
     }
-    if inputs == 4 {
+    if inputs == STRAIGHT_INPUTS {
         sixteen(a);
         return;
     }

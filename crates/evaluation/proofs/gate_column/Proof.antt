@@ -1,4 +1,4 @@
--- The number of lines that the gate reads says which loop.
+-- The number of lines that the gate reads says which loop. Nothing here is named after the test of d, which an edit of must-fail/ changes.
 use native.Mathlib.Omega.{arith}
 use borrow.Author.Rules.{rules}
 use Prim.Native.Nat.{◌≤◌}
@@ -15,79 +15,70 @@ below s =
     let own = s.requires.1 in
     (omega (arith, r.first_below), omega (arith, r.second_below), omega (arith, r.third-below), omega (arith, r.fourth-below))
 
-cast-a : tie.Need-overflow-cast-a
+cast-a : tie.Need-overflow_cast-a
 cast-a c = search rules
 
-cast-b : tie.Need-overflow-cast-b
+cast-b : tie.Need-overflow_cast-b
 cast-b c = search rules
 
-cast-c : tie.Need-overflow-cast-c
+cast-c : tie.Need-overflow_cast-c
 cast-c c = search rules
 
-cast-d : tie.Need-overflow-cast-d
+cast-d : tie.Need-overflow_cast-d
 cast-d c = search rules
 
-one-column-requires : tie.Need-one-column-requires
+one-column-requires : tie.Need-one_column-requires
 one-column-requires c κs = let s = c.before.before.before.before.before.before.before in (s.requires.0, s.requires.1, s.requires.2, (below s).0)
 
-same_length : tie.Need-same-length
+same_length : tie.Need-shape_of-values-then-b-eq0
 same_length c = search rules
 
-returns : tie.Need-returns
+returns : tie.Need-returns-then-b-eq0
 returns c =
     let s = c.before.before.before.before.before.before.before.before.before.before in
     let a = s.args in
-    let none = c.before.before.before.before.if1.true in
+    let none = c.before.before.before.before.if-b-eq0.true in
     column-told a.values.now _ a.s a.line a.n (lines_read a.gate) (alone-not a.gate.kind a.gate.b s.requires.3.second none)
-    (column-as a.values.now _ a.s a.line a.n (lines_read a.gate) Not (reads-one a.gate none) c.before.before.one-column.ensures)
+    (column-as a.values.now _ a.s a.line a.n (lines_read a.gate) Not (reads-one a.gate none) c.before.before.one_column.ensures)
 
-two-kinds-requires : tie.Need-two-kinds-requires
+two-kinds-requires : tie.Need-two_kinds-requires
 two-kinds-requires c κs =
     let s = c.before.before.before.before.before.before.before.before in
     let g = s.args.gate in
-    (s.requires.0, s.requires.1, s.requires.2, never-not g.kind g.b s.requires.3.second c.before.before.if1.false, (below s).0, (below s).1)
+    (s.requires.0, s.requires.1, s.requires.2, never-not g.kind g.b s.requires.3.second c.before.before.if-b-eq0.false, (below s).0, (below s).1)
 
-same-length-2 : tie.Need-same-length-2
+same-length-2 : tie.Need-shape_of-values-then-c-eq0
 same-length-2 c = search rules
 
-returns-2 : tie.Need-returns-2
+returns-2 : tie.Need-returns-then-c-eq0
 returns-2 c =
     let s = c.before.before.before.before.before.before.before.before.before.before.before in
     let a = s.args in
-    column-as a.values.now _ a.s a.line a.n (lines_read a.gate) a.gate.kind (reads_two a.gate c.before.before.before.before.before.if1.false c.before.before.before.before.if2.true) c.before.before.two-kinds.ensures
+    column-as a.values.now _ a.s a.line a.n (lines_read a.gate) a.gate.kind (reads_two a.gate c.before.before.before.before.before.if-b-eq0.false c.before.before.before.before.if-c-eq0.true) c.before.before.two_kinds.ensures
 
-three-kinds-requires : tie.Need-three-kinds-requires
+three-kinds-requires : tie.Need-three_kinds-requires
 three-kinds-requires c κs =
     let s = c.before.before.before.before.before.before.before.before.before in
     let g = s.args.gate in
-    (s.requires.0, s.requires.1, s.requires.2, never-not g.kind g.b s.requires.3.second c.before.before.before.if1.false, (below s).0, (below s).1, (below s).2)
+    (s.requires.0, s.requires.1, s.requires.2, never-not g.kind g.b s.requires.3.second c.before.before.before.if-b-eq0.false, (below s).0, (below s).1, (below s).2)
 
-same-length-3 : tie.Need-same-length-3
-same-length-3 c = search rules
-
-returns-3 : tie.Need-returns-3
-returns-3 c =
-    let s = c.before.before.before.before.before.before.before.before.before.before.before.before in
-    let a = s.args in
-    column-as a.values.now _ a.s a.line a.n (lines_read a.gate) a.gate.kind (reads_three a.gate c.before.before.before.before.before.before.if1.false c.before.before.before.before.before.if2.false c.before.before.before.before.if3.true) c.before.before.three-kinds.ensures
-
-four-kinds-requires : tie.Need-four-kinds-requires
+four-kinds-requires : tie.Need-four_kinds-requires
 four-kinds-requires c κs =
     let s = c.before.before.before.before.before.before.before.before.before in
     let g = s.args.gate in
-    (s.requires.0, s.requires.1, s.requires.2, never-not g.kind g.b s.requires.3.second c.before.before.before.if1.false, (below s).0, (below s).1, (below s).2, (below s).3)
+    (s.requires.0, s.requires.1, s.requires.2, never-not g.kind g.b s.requires.3.second c.before.before.before.if-b-eq0.false, (below s).0, (below s).1, (below s).2, (below s).3)
 
-same-length-4 : tie.Need-same-length-4
+same-length-4 : tie.Need-shape_of-values
 same-length-4 c = search rules
 
-returns-4 : tie.Need-returns-4
+returns-4 : tie.Need-returns
 returns-4 c =
     let s = c.before.before.before.before.before.before.before.before.before.before.before.before in
     let a = s.args in
-    column-as a.values.now _ a.s a.line a.n (lines_read a.gate) a.gate.kind (reads-four a.gate c.before.before.before.before.before.before.if1.false c.before.before.before.before.before.if2.false c.before.before.before.before.if3.false) c.before.before.four-kinds.ensures
+    column-as a.values.now _ a.s a.line a.n (lines_read a.gate) a.gate.kind (reads-four a.gate c.before.before.before.before.before.before.if-b-eq0.false c.before.before.before.before.before.if-c-eq0.false (omega arith)) c.before.before.four_kinds.ensures
 
-pub gate-column-spec : {M : Type 1} → statement M
-gate-column-spec =
+pub gate_column_spec : {M : Type 1} → statement M
+gate_column_spec =
     tie.close
     (tie.spec
     cast-a
@@ -101,8 +92,8 @@ gate-column-spec =
     same-length-2
     returns-2
     three-kinds-requires
-    same-length-3
-    returns-3
+    (λ c. search rules)
+    (λ c. let g = c.args.gate in column-as c.args.values.now _ c.args.s c.args.line c.args.n (lines_read g) g.kind (reads_three g c.if-b-eq0.false c.if-c-eq0.false (omega arith)) c.three_kinds.ensures)
     four-kinds-requires
     same-length-4
     returns-4)

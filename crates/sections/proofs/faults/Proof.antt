@@ -8,76 +8,76 @@ use Rattle.sections.proofs.LineLoops.{ReadSoFar, begun, turned, missing, decline
 use Rattle.sections.proofs.faults.Statement.{statement}
 use Rattle.sections.proofs.faults.Tie as tie
 
-abbrev invariant-loop : tie.invariant-loop
+abbrev invariant-loop : tie.invariant-loop-j
 invariant-loop text from inputs top count place faults₀ at₀ j₀ faults at j = ReadSoFar (nth_fault_refusal inputs top) fault_line_of text from place count 32 faults j at
 
-abbrev decreases-loop : tie.decreases-loop
+abbrev decreases-loop : tie.decreases-loop-j
 decreases-loop text from inputs top count place faults₀ at₀ j₀ faults at j = count - j
 
-loop-holds : tie.Need-loop-init invariant-loop decreases-loop
-loop-holds c = let a = c.before.args in begun (nth_fault_refusal a.inputs a.top) fault_line_of a.text.now a.from a.place a.count 32 _ (search rules)
+loop-holds : tie.Need-loop-j-init invariant-loop decreases-loop
+loop-holds c = let a = c.args in begun (nth_fault_refusal a.inputs a.top) fault_line_of a.text.now a.from a.place a.count 32 _ (search rules)
 
-find-requires : tie.Need-find-requires invariant-loop decreases-loop
+find-requires : tie.Need-find-end-requires invariant-loop decreases-loop
 find-requires c κs = search rules
 
-add-t19 : tie.Need-overflow-add-t19 invariant-loop decreases-loop
+add-t19 : tie.Need-overflow_add-result invariant-loop decreases-loop
 add-t19 c = search rules
 
-returns : tie.Need-returns invariant-loop decreases-loop
+returns : tie.Need-returns-then-text-end invariant-loop decreases-loop
 returns c =
-    let l = c.before.before.before.loop in
-    let f = c.before.find in
+    let l = c.loop-j in
+    let f = c.find-end in
     missing l.invariant (omega arith) (omega arith) f.ensures (omega arith)
 
-sub-fault-or-bridge : tie.Need-overflow-sub-fault-or-bridge invariant-loop decreases-loop
+sub-fault-or-bridge : tie.Need-slice_bounds-fault_or_bridge-count invariant-loop decreases-loop
 sub-fault-or-bridge c = search rules
 
-part-fault-or-bridge-start : tie.Need-slice-bounds-fault-or-bridge-start invariant-loop decreases-loop
+part-fault-or-bridge-start : tie.Need-slice_bounds-fault_or_bridge-start invariant-loop decreases-loop
 part-fault-or-bridge-start c = search rules
 
-part-fault-or-bridge-end : tie.Need-slice-bounds-fault-or-bridge-end invariant-loop decreases-loop
+part-fault-or-bridge-end : tie.Need-slice_bounds-fault_or_bridge-end invariant-loop decreases-loop
 part-fault-or-bridge-end c = search rules
 
-fault-or-bridge-requires : tie.Need-fault-or-bridge-requires invariant-loop decreases-loop
+fault-or-bridge-requires : tie.Need-fault_or_bridge-said-requires invariant-loop decreases-loop
 fault-or-bridge-requires c κs = search rules
 
-add-t24 : tie.Need-overflow-add-t24 invariant-loop decreases-loop
+add-t24 : tie.Need-overflow_add-result-then-number-ne0 invariant-loop decreases-loop
 add-t24 c = search rules
 
-returns-2 : tie.Need-returns-2 invariant-loop decreases-loop
+returns-2 : tie.Need-returns-then-number-ne0 invariant-loop decreases-loop
 returns-2 c =
-    let l = c.before.before.before.before.before.before.loop in
-    let f = c.before.before.before.before.find in
-    let r = c.before.fault-or-bridge in
-    declined l.invariant (omega arith) (omega arith) f.ensures (omega arith) r.ensures.0 c.if2.true
+    let l = c.loop-j in
+    let f = c.find-end in
+    let r = c.fault_or_bridge-said in
+    declined l.invariant (omega arith) (omega arith) f.ensures (omega arith) r.ensures.0 c.if-number-ne0.true
 
-mul-faults : tie.Need-overflow-mul-faults invariant-loop decreases-loop
+mul-faults : tie.Need-offset_bounds-faults-j invariant-loop decreases-loop
 mul-faults c = search rules
 
-array-set-from-faults : tie.Need-array-set-from-faults invariant-loop decreases-loop
+array-set-from-faults : tie.Need-bounds-faults-j invariant-loop decreases-loop
 array-set-from-faults c = search rules
 
-add_at : tie.Need-overflow-add-at invariant-loop decreases-loop
+add_at : tie.Need-overflow_add-at invariant-loop decreases-loop
 add_at c = search rules
 
-add-j : tie.Need-overflow-add-j invariant-loop decreases-loop
+add-j : tie.Need-overflow_add-j invariant-loop decreases-loop
 add-j c = search rules
 
-loop-less : tie.Need-loop-smaller invariant-loop decreases-loop
+loop-less : tie.Need-loop-j-smaller invariant-loop decreases-loop
 loop-less c = search rules
 
-loop-again : tie.Need-loop-preserved invariant-loop decreases-loop
+loop-again : tie.Need-loop-j-preserved invariant-loop decreases-loop
 loop-again c =
-    let l = c.before.before.before.before.before.before.before.loop in
-    let f = c.before.before.before.before.before.find in
-    let r = c.before.before.fault-or-bridge in
-    turned l.invariant (omega arith) (omega arith) f.ensures (omega arith) r.ensures.0 c.before.if2.false r.ensures.1
+    let l = c.loop-j in
+    let f = c.find-end in
+    let r = c.fault_or_bridge-said in
+    turned l.invariant (omega arith) (omega arith) f.ensures (omega arith) r.ensures.0 c.if-number-ne0.false r.ensures.1
 
-returns-3 : tie.Need-returns-3 invariant-loop decreases-loop
-returns-3 c = finished c.before.loop.invariant (omega arith) (omega arith)
+returns-3 : tie.Need-returns invariant-loop decreases-loop
+returns-3 c = finished c.loop-j.invariant (omega arith) (omega arith)
 
-pub faults-spec : {M : Type 1} → statement M
-faults-spec =
+pub faults_spec : {M : Type 1} → statement M
+faults_spec =
     tie.close
     (tie.spec
     invariant-loop

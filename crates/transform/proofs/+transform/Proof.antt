@@ -35,7 +35,7 @@ callees t = (sixteen.Asked, sixteen.Learnt, below t, transform.Post, butterfly.A
 
 module _ (t : ℕ) where
   -- past both tests
-  module _ (e : lts.Else-inputs-eq4 (callees t) (at t) transform.Post) where
+  module _ (e : lts.Else-inputs-eq-STRAIGHT_INPUTS (callees t) (at t) transform.Post) where
     abbrev A : List ℤ
     A = e.before.before.args.a.now
 
@@ -56,12 +56,12 @@ module _ (t : ℕ) where
   returns c = single c.before.args.a.now (c.before.requires.1.1.0 ∙ ap (λ (m : ℕ). 2 ^ m) c.if-inputs-eq0.true)
 
   sixteen-requires : lts.Need-sixteen-requires (callees t) (at t) transform.Post
-  sixteen-requires c κs = let s = c.before.before.before in (s.requires.1.1.0 ∙ ap (λ (m : ℕ). 2 ^ m) c.before.if-inputs-eq4.true, s.requires.1.1.1)
+  sixteen-requires c κs = let s = c.before.before.before in (s.requires.1.1.0 ∙ ap (λ (m : ℕ). 2 ^ m) c.before.if-inputs-eq-STRAIGHT_INPUTS.true, s.requires.1.1.1)
 
-  same_length : lts.Need-shape_of-a-then-inputs-eq4 (callees t) (at t) transform.Post
+  same_length : lts.Need-shape_of-a-then-inputs-eq-STRAIGHT_INPUTS (callees t) (at t) transform.Post
   same_length c = search rules
 
-  returns-2 : lts.Need-returns-then-inputs-eq4 (callees t) (at t) transform.Post
+  returns-2 : lts.Need-returns-then-inputs-eq-STRAIGHT_INPUTS (callees t) (at t) transform.Post
   returns-2 c = c.before.sixteen.ensures
 
   slice-relend-prefix-transform : lts.Need-slice_bounds-transform-end (callees t) (at t) transform.Post

@@ -21,27 +21,27 @@ few s =
     let e = ap length (ap integer_of (to_z-of_z w32 z s.ranges.z)) in
     omega (arith, e, h)
 
-slice-write-out : tie.Need-slice-write-out
+slice-write-out : tie.Need-bounds-out-at
 slice-write-out c = search rules
 
-add-put-integer : tie.Need-overflow-add-put-integer
+add-put-integer : tie.Need-overflow_add-at
 add-put-integer c = search rules
 
-put-integer-requires : tie.Need-put-integer-requires
+put-integer-requires : tie.Need-put_integer-requires
 put-integer-requires c κs =
     let s = c.before.before in
     omega (arith, few s, length-set s.args.out.now s.args.at 44, s.requires)
 
-same_length : tie.Need-same-length
+same_length : tie.Need-shape_of-out
 same_length c =
     let a = c.before.before.before.before.before.args in
-    c.before.before.put-integer.auto.0 ∙ length-set a.out.now a.at 44
+    c.before.before.put_integer.auto.out ∙ length-set a.out.now a.at 44
 
 returns : tie.Need-returns
 returns c =
     let s = c.before.before.before.before.before in
-    omega (arith, few s, c.before.before.put-integer.ensures.0)
+    omega (arith, few s, c.before.before.put_integer.ensures.0)
 
-pub put-number-spec : {M : Type 1} → statement M
-put-number-spec =
+pub put_number_spec : {M : Type 1} → statement M
+put_number_spec =
     tie.close (tie.spec slice-write-out add-put-integer put-integer-requires same_length returns)

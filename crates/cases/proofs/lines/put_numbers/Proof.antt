@@ -6,44 +6,44 @@ use native.Mathlib.Omega.{arith}
 use Rattle.cases.proofs.lines.put_numbers.Statement.{statement}
 use Rattle.cases.proofs.lines.put_numbers.Tie as tie
 
-abbrev invariant-loop : tie.invariant-loop
+abbrev invariant-loop : tie.invariant-loop-i
 invariant-loop out₀ at numbers end₀ i₀ out end i = (i ≤ length numbers) × (length out ≡ length out₀) × (end ≤ at + 12 * i)
 
-abbrev decreases-loop : tie.decreases-loop
+abbrev decreases-loop : tie.decreases-loop-i
 decreases-loop out₀ at numbers end₀ i₀ out end i = length numbers - i
 
-loop-holds : tie.Need-loop-init invariant-loop decreases-loop
+loop-holds : tie.Need-loop-i-init invariant-loop decreases-loop
 loop-holds c = search rules
 
-mul-z : tie.Need-overflow-mul-z invariant-loop decreases-loop
+mul-z : tie.Need-offset_bounds-numbers-i invariant-loop decreases-loop
 mul-z c = search rules
 
-shared-slice-copy-out-z : tie.Need-shared-slice-copy-out-z invariant-loop decreases-loop
+shared-slice-copy-out-z : tie.Need-bounds-numbers-i invariant-loop decreases-loop
 shared-slice-copy-out-z c = search rules
 
-put-number-requires : tie.Need-put-number-requires invariant-loop decreases-loop
+put-number-requires : tie.Need-put_number-end-requires invariant-loop decreases-loop
 put-number-requires c κs = search rules
 
-add-i : tie.Need-overflow-add-i invariant-loop decreases-loop
+add-i : tie.Need-overflow_add-i invariant-loop decreases-loop
 add-i c = search rules
 
-loop-less : tie.Need-loop-smaller invariant-loop decreases-loop
+loop-less : tie.Need-loop-i-smaller invariant-loop decreases-loop
 loop-less c = search rules
 
-loop-again : tie.Need-loop-preserved invariant-loop decreases-loop
+loop-again : tie.Need-loop-i-preserved invariant-loop decreases-loop
 loop-again c =
-    let l = c.before.before.before.before.before.before.loop in
-    let p = c.before.before.put-number in
-    (omega (arith, c.before.before.before.before.before.loop-test.true), p.auto.0 ∙ l.invariant.1, omega (arith, p.ensures, l.invariant.2))
+    let l = c.before.before.before.before.before.before.loop-i in
+    let p = c.before.before.put_number-end in
+    (omega (arith, c.before.before.before.before.before.loop-i-test.true), p.auto.out ∙ l.invariant.1, omega (arith, p.ensures, l.invariant.2))
 
-same_length : tie.Need-same-length invariant-loop decreases-loop
+same_length : tie.Need-shape_of-out invariant-loop decreases-loop
 same_length c = search rules
 
 returns : tie.Need-returns invariant-loop decreases-loop
 returns c = search rules
 
-pub put-numbers-spec : {M : Type 1} → statement M
-put-numbers-spec =
+pub put_numbers_spec : {M : Type 1} → statement M
+put_numbers_spec =
     tie.close
     (tie.spec
     invariant-loop
