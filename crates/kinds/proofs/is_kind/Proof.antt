@@ -28,12 +28,12 @@ same-requires-7 c κs = search rules
 returns : tie.Need-returns
 unfolding is_kind
 returns c = simp (
-  sym c.before.before.before.before.before.before.before.before.before.before.before.before.same.ensures,
-  sym c.before.before.before.before.before.before.before.before.before.before.same-2.ensures,
-  sym c.before.before.before.before.before.before.before.before.same-3.ensures,
-  sym c.before.before.before.before.before.before.same-4.ensures,
-  sym c.before.before.before.before.same-5.ensures,
-  sym c.before.before.same-6.ensures,
+  sym c.same.ensures,
+  sym c.same-2.ensures,
+  sym c.same-3.ensures,
+  sym c.same-4.ensures,
+  sym c.same-5.ensures,
+  sym c.same-6.ensures,
   sym c.same-7.ensures,
 )
 

@@ -9,7 +9,7 @@ same-requires c κs = search rules
 
 returns : tie.Need-returns-then-same
 unfolding kind_of
-returns c = simp (sym c.before.same.ensures ∙ c.if-same.true)
+returns c = simp (sym c.same.ensures ∙ c.if-same.true)
 
 same-requires-2 : tie.Need-same-requires-2
 same-requires-2 c κs = search rules
@@ -17,10 +17,9 @@ same-requires-2 c κs = search rules
 returns-2 : tie.Need-returns-then-same-2
 unfolding kind_of
 returns-2 c =
-    let at_and = c.before.before.before in
     simp (
-      sym at_and.before.same.ensures ∙ at_and.if-same.false,
-      sym c.before.same-2.ensures ∙ c.if-same-2.true,
+      sym c.same.ensures ∙ c.if-same.false,
+      sym c.same-2.ensures ∙ c.if-same-2.true,
     )
 
 same-requires-3 : tie.Need-same-requires-3
@@ -29,12 +28,10 @@ same-requires-3 c κs = search rules
 returns-3 : tie.Need-returns-then-same-3
 unfolding kind_of
 returns-3 c =
-    let at_or = c.before.before.before in
-    let at_and = at_or.before.before.before in
     simp (
-      sym at_and.before.same.ensures ∙ at_and.if-same.false,
-      sym at_or.before.same-2.ensures ∙ at_or.if-same-2.false,
-      sym c.before.same-3.ensures ∙ c.if-same-3.true,
+      sym c.same.ensures ∙ c.if-same.false,
+      sym c.same-2.ensures ∙ c.if-same-2.false,
+      sym c.same-3.ensures ∙ c.if-same-3.true,
     )
 
 same-requires-4 : tie.Need-same-requires-4
@@ -43,14 +40,11 @@ same-requires-4 c κs = search rules
 returns-4 : tie.Need-returns-then-same-4
 unfolding kind_of
 returns-4 c =
-    let at_nand = c.before.before.before in
-    let at_or = at_nand.before.before.before in
-    let at_and = at_or.before.before.before in
     simp (
-      sym at_and.before.same.ensures ∙ at_and.if-same.false,
-      sym at_or.before.same-2.ensures ∙ at_or.if-same-2.false,
-      sym at_nand.before.same-3.ensures ∙ at_nand.if-same-3.false,
-      sym c.before.same-4.ensures ∙ c.if-same-4.true,
+      sym c.same.ensures ∙ c.if-same.false,
+      sym c.same-2.ensures ∙ c.if-same-2.false,
+      sym c.same-3.ensures ∙ c.if-same-3.false,
+      sym c.same-4.ensures ∙ c.if-same-4.true,
     )
 
 same-requires-5 : tie.Need-same-requires-5
@@ -59,16 +53,12 @@ same-requires-5 c κs = search rules
 returns-5 : tie.Need-returns-then-same-5
 unfolding kind_of
 returns-5 c =
-    let at_nor = c.before.before.before in
-    let at_nand = at_nor.before.before.before in
-    let at_or = at_nand.before.before.before in
-    let at_and = at_or.before.before.before in
     simp (
-      sym at_and.before.same.ensures ∙ at_and.if-same.false,
-      sym at_or.before.same-2.ensures ∙ at_or.if-same-2.false,
-      sym at_nand.before.same-3.ensures ∙ at_nand.if-same-3.false,
-      sym at_nor.before.same-4.ensures ∙ at_nor.if-same-4.false,
-      sym c.before.same-5.ensures ∙ c.if-same-5.true,
+      sym c.same.ensures ∙ c.if-same.false,
+      sym c.same-2.ensures ∙ c.if-same-2.false,
+      sym c.same-3.ensures ∙ c.if-same-3.false,
+      sym c.same-4.ensures ∙ c.if-same-4.false,
+      sym c.same-5.ensures ∙ c.if-same-5.true,
     )
 
 same-requires-6 : tie.Need-same-requires-6
@@ -77,35 +67,25 @@ same-requires-6 c κs = search rules
 returns-6 : tie.Need-returns-then-same-6
 unfolding kind_of
 returns-6 c =
-    let at_xor = c.before.before.before in
-    let at_nor = at_xor.before.before.before in
-    let at_nand = at_nor.before.before.before in
-    let at_or = at_nand.before.before.before in
-    let at_and = at_or.before.before.before in
     simp (
-      sym at_and.before.same.ensures ∙ at_and.if-same.false,
-      sym at_or.before.same-2.ensures ∙ at_or.if-same-2.false,
-      sym at_nand.before.same-3.ensures ∙ at_nand.if-same-3.false,
-      sym at_nor.before.same-4.ensures ∙ at_nor.if-same-4.false,
-      sym at_xor.before.same-5.ensures ∙ at_xor.if-same-5.false,
-      sym c.before.same-6.ensures ∙ c.if-same-6.true,
+      sym c.same.ensures ∙ c.if-same.false,
+      sym c.same-2.ensures ∙ c.if-same-2.false,
+      sym c.same-3.ensures ∙ c.if-same-3.false,
+      sym c.same-4.ensures ∙ c.if-same-4.false,
+      sym c.same-5.ensures ∙ c.if-same-5.false,
+      sym c.same-6.ensures ∙ c.if-same-6.true,
     )
 
 returns-7 : tie.Need-returns
 unfolding kind_of
 returns-7 c =
-    let at_xor = c.before.before.before in
-    let at_nor = at_xor.before.before.before in
-    let at_nand = at_nor.before.before.before in
-    let at_or = at_nand.before.before.before in
-    let at_and = at_or.before.before.before in
     simp (
-      sym at_and.before.same.ensures ∙ at_and.if-same.false,
-      sym at_or.before.same-2.ensures ∙ at_or.if-same-2.false,
-      sym at_nand.before.same-3.ensures ∙ at_nand.if-same-3.false,
-      sym at_nor.before.same-4.ensures ∙ at_nor.if-same-4.false,
-      sym at_xor.before.same-5.ensures ∙ at_xor.if-same-5.false,
-      sym c.before.same-6.ensures ∙ c.if-same-6.false,
+      sym c.same.ensures ∙ c.if-same.false,
+      sym c.same-2.ensures ∙ c.if-same-2.false,
+      sym c.same-3.ensures ∙ c.if-same-3.false,
+      sym c.same-4.ensures ∙ c.if-same-4.false,
+      sym c.same-5.ensures ∙ c.if-same-5.false,
+      sym c.same-6.ensures ∙ c.if-same-6.false,
     )
 
 pub kind_of_spec : {M : Type 1} → statement M

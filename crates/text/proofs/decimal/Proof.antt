@@ -19,20 +19,20 @@ abbrev decreases-loop : tie.decreases-loop-i
 decreases-loop s n v₀ i₀ v i = n - i
 
 returns : tie.Need-returns-then-n-eq0 invariant-loop decreases-loop
-returns c = sym (number-empty c.before.args.s.now c.if-n-eq0.true)
+returns c = sym (number-empty c.args.s.now c.if-n-eq0.true)
 
 returns-2 : tie.Need-returns-then-n-gt4 invariant-loop decreases-loop
-returns-2 c = sym (number-long c.before.before.args.s.now c.if-n-gt4.true)
+returns-2 c = sym (number-long c.args.s.now c.if-n-gt4.true)
 
 shared-slice-read-if4 : tie.Need-bounds-s-0 invariant-loop decreases-loop
 shared-slice-read-if4 c = search rules
 
 returns-3 : tie.Need-returns-then-s-eq48 invariant-loop decreases-loop
-returns-3 c = sym (number-zero c.before.before.before.before.before.args.s.now c.before.before.if-n-gt1.true c.if-s-eq48.true)
+returns-3 c = sym (number-zero c.args.s.now c.if-n-gt1.true c.if-s-eq48.true)
 
 loop-holds : tie.Need-loop-i-init invariant-loop decreases-loop
 loop-holds c =
-    let s = c.before.before.before.args.s.now in
+    let s = c.args.s.now in
     (search rules, lit< tt, number_digits s (omega arith) (omega arith) (⊎_elim (λ w. inr w.if-s-eq48.false) (λ w. inl (omega arith)) c.if-n-gt1.branch-raw))
 
 shared-slice-read-x : tie.Need-bounds-s-i invariant-loop decreases-loop
@@ -40,22 +40,22 @@ shared-slice-read-x c = search rules
 
 returns-4 : tie.Need-returns-then-x-lt48 invariant-loop decreases-loop
 returns-4 c =
-    let l = c.before.before.before.loop-i in
-    sym (l.invariant.2 ∙ digit_low l.v c.before.before.before.before.before.before.before.args.s.now l.i (omega arith) c.if-x-lt48.true)
+    let l = c.loop-i in
+    sym (l.invariant.2 ∙ digit_low l.v c.args.s.now l.i (omega arith) c.if-x-lt48.true)
 
 returns-5 : tie.Need-returns-then-x-gt57 invariant-loop decreases-loop
 returns-5 c =
-    let l = c.before.before.before.before.loop-i in
-    sym (l.invariant.2 ∙ digit-high l.v c.before.before.before.before.before.before.before.before.args.s.now l.i (omega arith) c.if-x-gt57.true)
+    let l = c.loop-i in
+    sym (l.invariant.2 ∙ digit-high l.v c.args.s.now l.i (omega arith) c.if-x-gt57.true)
 
 mul-v : tie.Need-overflow_mul-v invariant-loop decreases-loop
-mul-v c = omega (arith, ten-le {i = c.before.before.before.before.loop-i.i} {j = 3} (omega arith))
+mul-v c = omega (arith, ten-le {i = c.loop-i.i} {j = 3} (omega arith))
 
 cast-v : tie.Need-overflow_cast-v invariant-loop decreases-loop
 cast-v c = search rules
 
 add-v : tie.Need-overflow_add-v invariant-loop decreases-loop
-add-v c = omega (arith, ten-le {i = c.before.before.before.before.loop-i.i} {j = 3} (omega arith))
+add-v c = omega (arith, ten-le {i = c.loop-i.i} {j = 3} (omega arith))
 
 add-i : tie.Need-overflow_add-i invariant-loop decreases-loop
 add-i c = search rules
@@ -65,11 +65,11 @@ loop-less c = search rules
 
 loop-again : tie.Need-loop-i-preserved invariant-loop decreases-loop
 loop-again c =
-    let l = c.before.before.before.before.loop-i in
-    (omega arith, omega (arith, pow-add 10 l.i 1), l.invariant.2 ∙ digit-step l.v c.before.before.before.before.before.before.before.before.args.s.now l.i (omega arith) c.before.if-x-lt48.false c.if-x-gt57.false)
+    let l = c.loop-i in
+    (omega arith, omega (arith, pow-add 10 l.i 1), l.invariant.2 ∙ digit-step l.v c.args.s.now l.i (omega arith) c.if-x-lt48.false c.if-x-gt57.false)
 
 returns-6 : tie.Need-returns invariant-loop decreases-loop
-returns-6 c = let l = c.before.loop-i in sym (l.invariant.2 ∙ digit-end l.v c.before.before.before.before.before.args.s.now l.i (omega arith))
+returns-6 c = let l = c.loop-i in sym (l.invariant.2 ∙ digit-end l.v c.args.s.now l.i (omega arith))
 
 pub decimal_spec : {M : Type 1} → statement M
 decimal_spec =

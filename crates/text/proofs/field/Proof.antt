@@ -17,14 +17,14 @@ part-result-start c = search rules
 
 part-result-end : tie.Need-slice_bounds-result-end
 part-result-end c =
-    let a = c.before.before.args in
+    let a = c.args in
     let s = c.locate-s in
     span-within a.text.now a.k s.result.start s.result.end s.ensures.0 s.ensures.1
 
 returns : tie.Need-returns
 returns c =
-    let a = c.before.before.before.args in
-    let s = c.before.locate-s in
+    let a = c.args in
+    let s = c.locate-s in
     (span-field a.text.now a.k s.result.start s.result.end s.ensures.0 s.ensures.1, ap (λ n. further n a.text.ref_ptr) s.ensures.0)
 
 pub field_spec : {M : Type 1} → statement M

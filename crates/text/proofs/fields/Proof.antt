@@ -33,15 +33,15 @@ loop-less c = search rules
 
 loop-again : tie.Need-loop-i-preserved invariant-loop decreases-loop
 loop-again c =
-    let a = c.before.before.before.before.args in
-    let i = c.before.before.before.loop-i.i in
+    let a = c.args in
+    let i = c.loop-i.i in
     ⊎_elim
     (λ w. omega (arith, count-hit a.text.now i (omega arith) w.if-text-i-eq44.true))
     (λ w. omega (arith, count-miss a.text.now i (omega arith) w.if-text-i-eq44.false))
     c.if-text-i-eq44.branch-raw
 
 returns : tie.Need-returns invariant-loop decreases-loop
-returns c = omega (arith, count-end c.before.before.args.text.now c.before.loop-i.i (omega arith))
+returns c = omega (arith, count-end c.args.text.now c.loop-i.i (omega arith))
 
 pub fields_spec : {M : Type 1} → statement M
 fields_spec =

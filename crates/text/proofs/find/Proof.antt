@@ -23,8 +23,8 @@ shared-slice-read-if1 c = search rules
 
 returns : tie.Need-returns-then-text-i invariant-loop decreases-loop
 returns c =
-    let a = c.before.before.before.before.args in
-    let l = c.before.before.before.loop-i in
+    let a = c.args in
+    let l = c.loop-i in
     sym (l.invariant ∙ index-hit a.b a.text.now l.i (omega arith) c.if-text-i.true)
 
 add-i : tie.Need-overflow_add-i invariant-loop decreases-loop
@@ -35,14 +35,14 @@ loop-less c = search rules
 
 loop-again : tie.Need-loop-i-preserved invariant-loop decreases-loop
 loop-again c =
-    let a = c.before.before.before.before.args in
-    let l = c.before.before.before.loop-i in
+    let a = c.args in
+    let l = c.loop-i in
     l.invariant ∙ index-miss a.b a.text.now l.i (omega arith) c.if-text-i.false
 
 returns-2 : tie.Need-returns invariant-loop decreases-loop
 returns-2 c =
-    let a = c.before.before.args in
-    let l = c.before.loop-i in
+    let a = c.args in
+    let l = c.loop-i in
     sym (l.invariant ∙ index-end a.b a.text.now l.i (omega arith))
 
 pub find_spec : {M : Type 1} → statement M

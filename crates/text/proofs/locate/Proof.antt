@@ -14,16 +14,16 @@ abbrev decreases-loop : tie.decreases-loop-i
 decreases-loop text k start₀ i₀ start i = k - i
 
 loop-holds : tie.Need-loop-i-init invariant-loop decreases-loop
-loop-holds c = (search rules, search rules, rest_all c.before.args.text.now c.before.args.k)
+loop-holds c = (search rules, search rules, rest_all c.args.text.now c.args.k)
 
 find-requires : tie.Need-find-comma-requires invariant-loop decreases-loop
 find-requires c κs = search rules
 
 returns : tie.Need-returns-then-text-comma invariant-loop decreases-loop
 returns c =
-    let a = c.before.before.before.before.before.args in
-    let l = c.before.before.before.loop-i in
-    rest-past a.text.now a.k l.i l.start c.before.find-comma.result l.invariant.2 c.before.find-comma.ensures (omega arith) (omega arith) (omega arith)
+    let a = c.args in
+    let l = c.loop-i in
+    rest-past a.text.now a.k l.i l.start c.find-comma.result l.invariant.2 c.find-comma.ensures (omega arith) (omega arith) (omega arith)
 
 add_start : tie.Need-overflow_add-start invariant-loop decreases-loop
 add_start c = search rules
@@ -36,17 +36,17 @@ loop-less c = search rules
 
 loop-again : tie.Need-loop-i-preserved invariant-loop decreases-loop
 loop-again c =
-    let a = c.before.before.before.before.before.args in
-    let l = c.before.before.before.loop-i in
-    (omega arith, omega arith, rest-next a.text.now a.k l.i l.start c.before.find-comma.result l.invariant.2 c.before.find-comma.ensures (omega arith) (omega arith))
+    let a = c.args in
+    let l = c.loop-i in
+    (omega arith, omega arith, rest-next a.text.now a.k l.i l.start c.find-comma.result l.invariant.2 c.find-comma.ensures (omega arith) (omega arith))
 
 find-requires-2 : tie.Need-find-requires invariant-loop decreases-loop
 find-requires-2 c κs = search rules
 
 returns-2 : tie.Need-returns invariant-loop decreases-loop
 returns-2 c =
-    let a = c.before.before.before.before.args in
-    let l = c.before.before.loop-i in
+    let a = c.args in
+    let l = c.loop-i in
     rest-here a.text.now a.k l.i l.start c.find.result l.invariant.2 c.find.ensures (omega arith)
 
 pub locate_spec : {M : Type 1} → statement M

@@ -16,7 +16,7 @@ abbrev decreases-loop : tie.decreases-loop-i
 decreases-loop a b i₀ i = length a - i
 
 returns : tie.Need-returns-then-a-b invariant-loop decreases-loop
-returns c = sym (same_length c.before.args.a.now c.before.args.b.now c.if-a-b.true)
+returns c = sym (same_length c.args.a.now c.args.b.now c.if-a-b.true)
 
 loop-holds : tie.Need-loop-i-init invariant-loop decreases-loop
 loop-holds c = (search rules, refl)
@@ -29,8 +29,8 @@ shared-slice-read-if2-2 c = search rules
 
 returns-2 : tie.Need-returns-then-a-i invariant-loop decreases-loop
 returns-2 c =
-    let a = c.before.before.before.before.before.before.args in
-    let l = c.before.before.before.before.loop-i in
+    let a = c.args in
+    let l = c.loop-i in
     sym (l.invariant.1 ∙ same-differ a.a.now a.b.now l.i (omega arith) (omega arith) c.if-a-i.true)
 
 add-i : tie.Need-overflow_add-i invariant-loop decreases-loop
@@ -41,14 +41,14 @@ loop-less c = search rules
 
 loop-again : tie.Need-loop-i-preserved invariant-loop decreases-loop
 loop-again c =
-    let a = c.before.before.before.before.before.before.args in
-    let l = c.before.before.before.before.loop-i in
+    let a = c.args in
+    let l = c.loop-i in
     (omega arith, l.invariant.1 ∙ same_step a.a.now a.b.now l.i (omega arith) (omega arith) c.if-a-i.false)
 
 returns-3 : tie.Need-returns invariant-loop decreases-loop
 returns-3 c =
-    let a = c.before.before.before.args in
-    let l = c.before.loop-i in
+    let a = c.args in
+    let l = c.loop-i in
     sym (l.invariant.1 ∙ same_end a.a.now a.b.now l.i (omega arith) (omega arith))
 
 pub same_spec : {M : Type 1} → statement M

@@ -69,8 +69,8 @@ put-decimal-put-decimal-requires : (t : ℕ) → put-decimal-lts.Need-put_decima
 put-decimal-put-decimal-requires t c κs =
     let b = c.before.before.before in
     let a = b.args in
-    let h = tenth-room a.at a.n a.out.now b.requires.1 c.before.if-n-lt10.false in
-    (omega (arith, b.requires.0, c.before.if-n-lt10.false), omega (arith, h))
+    let h = tenth-room a.at a.n a.out.now b.requires.1 c.if-n-lt10.false in
+    (omega (arith, b.requires.0, c.if-n-lt10.false), omega (arith, h))
 
 put-decimal-slice-write-out-2 : (t : ℕ) → put-decimal-lts.Need-bounds-out-end (
   put-decimal-below t,
@@ -79,8 +79,8 @@ put-decimal-slice-write-out-2 : (t : ℕ) → put-decimal-lts.Need-bounds-out-en
 put-decimal-slice-write-out-2 t c =
     let b = c.before.before.before.before.before.before in
     let a = b.args in
-    let r = c.before.before.put_decimal-end in
-    last-room a.at a.n a.out.now b.requires.1 c.before.before.before.before.if-n-lt10.false r.new.out r.result r.ensures.1 r.ensures.0
+    let r = c.put_decimal-end in
+    last-room a.at a.n a.out.now b.requires.1 c.if-n-lt10.false r.new.out r.result r.ensures.1 r.ensures.0
 
 put-decimal-add-result-2 : (t : ℕ) → put-decimal-lts.Need-overflow_add-result-2 (
   put-decimal-below t,
@@ -89,8 +89,8 @@ put-decimal-add-result-2 : (t : ℕ) → put-decimal-lts.Need-overflow_add-resul
 put-decimal-add-result-2 t c =
     let b = c.before.before.before.before.before.before in
     let a = b.args in
-    let r = c.before.before.put_decimal-end in
-    let h = last-room a.at a.n a.out.now b.requires.1 c.before.before.before.before.if-n-lt10.false r.new.out r.result r.ensures.1 r.ensures.0 in search rules
+    let r = c.put_decimal-end in
+    let h = last-room a.at a.n a.out.now b.requires.1 c.if-n-lt10.false r.new.out r.result r.ensures.1 r.ensures.0 in search rules
 
 put-decimal-same-length-2 : (t : ℕ) → put-decimal-lts.Need-shape_of-out (
   put-decimal-below t,
@@ -105,8 +105,8 @@ put-decimal-returns-2 : (t : ℕ) → put-decimal-lts.Need-returns (
 put-decimal-returns-2 t c =
     let b = c.before.before.before.before.before.before in
     let a = b.args in
-    let r = c.before.before.put_decimal-end in
-    (last_end a.at a.n a.out.now b.requires.1 c.before.before.before.before.if-n-lt10.false r.new.out r.result r.ensures.1 r.ensures.0, last_written a.at a.n a.out.now b.requires.1 c.before.before.before.before.if-n-lt10.false r.new.out r.result r.ensures.1 r.ensures.0)
+    let r = c.put_decimal-end in
+    (last_end a.at a.n a.out.now b.requires.1 c.if-n-lt10.false r.new.out r.result r.ensures.1 r.ensures.0, last_written a.at a.n a.out.now b.requires.1 c.if-n-lt10.false r.new.out r.result r.ensures.1 r.ensures.0)
 
 pub +put_decimal_spec : {M : Type 1} → statement M
 +put_decimal_spec = close μ-put-decimal λ t. put-decimal-lts.spec (

@@ -48,9 +48,9 @@ add-out c = search rules
 
 slice-write-out : tie.Need-bounds-out-at invariant-loop decreases-loop
 slice-write-out c =
-    let a = c.before.before.before.args in
-    let l = c.before.before.loop-i in
-    room a.at a.bytes.now a.out.now l.out l.i c.before.before.before.requires c.before.loop-i-test.true l.invariant.1
+    let a = c.args in
+    let l = c.loop-i in
+    room a.at a.bytes.now a.out.now l.out l.i c.requires c.loop-i-test.true l.invariant.1
 
 add-i : tie.Need-overflow_add-i invariant-loop decreases-loop
 add-i c = search rules
@@ -60,23 +60,23 @@ loop-less c = search rules
 
 loop-again : tie.Need-loop-i-preserved invariant-loop decreases-loop
 loop-again c =
-    let a = c.before.before.before.args in
-    let l = c.before.before.loop-i in
-    (omega (arith, c.before.loop-i-test.true), more a.at a.bytes.now a.out.now l.out l.i c.before.before.before.requires c.before.loop-i-test.true l.invariant.1)
+    let a = c.args in
+    let l = c.loop-i in
+    (omega (arith, c.loop-i-test.true), more a.at a.bytes.now a.out.now l.out l.i c.requires c.loop-i-test.true l.invariant.1)
 
 add-result : tie.Need-overflow_add-result invariant-loop decreases-loop
 add-result c = search rules
 
 same_length : tie.Need-shape_of-out invariant-loop decreases-loop
 same_length c =
-    let a = c.before.before.args in
-    let l = c.before.loop-i in
-    ap length l.invariant.1 ∙ length-placed a.at (take l.i a.bytes.now) a.out.now (front a.at a.bytes.now a.out.now l.out l.i c.before.before.requires l.invariant.0)
+    let a = c.args in
+    let l = c.loop-i in
+    ap length l.invariant.1 ∙ length-placed a.at (take l.i a.bytes.now) a.out.now (front a.at a.bytes.now a.out.now l.out l.i c.requires l.invariant.0)
 
 returns : tie.Need-returns invariant-loop decreases-loop
 returns c =
-    let a = c.before.before.args in
-    let l = c.before.loop-i in
+    let a = c.args in
+    let l = c.loop-i in
     let e : l.i ≡ length a.bytes.now = omega (arith, l.invariant.0, c.loop-i-test.false) in
     (ap (λ (k : ℕ). a.at + k) e, l.invariant.1 ∙ ap (λ (x : List ℕ). placed a.at x a.out.now) (ap (λ (k : ℕ). take k a.bytes.now) e ∙ take-length a.bytes.now))
 

@@ -22,8 +22,8 @@ decreases-loop out₀ at numbers end₀ i₀ out end i = length numbers - i
 loop-holds : tie.Need-loop-i-init invariant-loop decreases-loop
 unfolding numbers_of
 loop-holds c =
-    let a = c.before.args in
-    none_written a.at (number_field a.numbers.now) (length a.numbers.now) a.out.now c.before.requires
+    let a = c.args in
+    none_written a.at (number_field a.numbers.now) (length a.numbers.now) a.out.now c.requires
 
 mul-z : tie.Need-offset_bounds-numbers-i invariant-loop decreases-loop
 mul-z c = search rules
@@ -32,23 +32,23 @@ shared-slice-copy-out-z : tie.Need-bounds-numbers-i invariant-loop decreases-loo
 shared-slice-copy-out-z c = search rules
 
 -- the next number has room
-room : (t : tie.In-loop-i invariant-loop decreases-loop) → t.before.loop-i.end + length (number_field t.before.before.before.args.numbers.now t.before.loop-i.i) ≤ length t.before.loop-i.out
+room : (t : tie.In-loop-i invariant-loop decreases-loop) → t.loop-i.end + length (number_field t.args.numbers.now t.loop-i.i) ≤ length t.loop-i.out
 unfolding numbers_of
 room t =
-    let a = t.before.before.before.args in
-    text-room a.at (number_field a.numbers.now) (length a.numbers.now) a.out.now t.before.before.before.requires t.before.loop-i.invariant t.loop-i-test.true
+    let a = t.args in
+    text-room a.at (number_field a.numbers.now) (length a.numbers.now) a.out.now t.requires t.loop-i.invariant t.loop-i-test.true
 
 slice-write-out : tie.Need-bounds-out-end invariant-loop decreases-loop
 slice-write-out c =
-    let l = c.before.before.loop-i in
-    comma-room c.before.before.before.before.args.numbers.now l.i l.out l.end (room c.before)
+    let l = c.loop-i in
+    comma-room c.args.numbers.now l.i l.out l.end (room c.before)
 
 add-put-integer : tie.Need-overflow_add-end invariant-loop decreases-loop
 unfolding numbers_of
 add-put-integer c =
     let b = c.before.before.before.before.before in
     let a = b.args in
-    let l = c.before.before.before.loop-i in
+    let l = c.loop-i in
     let h = comma-room a.numbers.now l.i l.out l.end (room c.before.before) in
     let n = as_long a.at (number_field a.numbers.now) (length a.numbers.now) a.out.now b.requires l.invariant in
     let k : l.end < length a.out.now = omega (arith, h, n) in
@@ -56,9 +56,9 @@ add-put-integer c =
 
 put-integer-requires : tie.Need-put_integer-end-requires invariant-loop decreases-loop
 put-integer-requires c κs =
-    let a = c.before.before.before.before.before.args in
-    let l = c.before.before.before.loop-i in
-    let e = ap length (ap integer_of (to_z-of_z w32 (nth a.numbers.now l.i) (record { sfits = c.before.z-1.given }))) in
+    let a = c.args in
+    let l = c.loop-i in
+    let e = ap length (ap integer_of (to_z-of_z w32 (nth a.numbers.now l.i) (record { sfits = c.z-1.given }))) in
     let h = number-room a.numbers.now l.i l.out l.end (room c.before.before) in
     omega (arith, e, h)
 
@@ -73,10 +73,10 @@ unfolding numbers_of
 loop-again c =
     let b = c.before.before.before.before.before.before.before.before in
     let a = b.args in
-    let l = c.before.before.before.before.before.before.loop-i in
+    let l = c.loop-i in
     let s = c.before.before.before.before.before in
-    let r = c.before.before.put_integer-end in
-    let e = ap integer_of (to_z-of_z w32 (nth a.numbers.now l.i) (record { sfits = c.before.before.before.before.z-1.given })) in
+    let r = c.put_integer-end in
+    let e = ap integer_of (to_z-of_z w32 (nth a.numbers.now l.i) (record { sfits = c.z-1.given })) in
     text-more a.at (number_field a.numbers.now) (length a.numbers.now) a.out.now b.requires l.invariant s.loop-i-test.true
     (number-written a.numbers.now l.i l.out l.end (room s)
     (r.ensures.0 ∙ ap (λ (x : List ℕ). l.end + 1 + length x) e, r.ensures.1 ∙ ap (λ (x : List ℕ). placed (l.end + 1) x (set l.out l.end comma)) e))
@@ -85,13 +85,13 @@ same_length : tie.Need-shape_of-out invariant-loop decreases-loop
 unfolding numbers_of
 same_length c =
     let b = c.before.before.before in
-    as_long b.args.at (number_field b.args.numbers.now) (length b.args.numbers.now) b.args.out.now b.requires c.before.loop-i.invariant
+    as_long b.args.at (number_field b.args.numbers.now) (length b.args.numbers.now) b.args.out.now b.requires c.loop-i.invariant
 
 returns : tie.Need-returns invariant-loop decreases-loop
 unfolding numbers_of
 returns c =
     let b = c.before.before.before in
-    all-written b.args.at (number_field b.args.numbers.now) (length b.args.numbers.now) b.args.out.now b.requires c.before.loop-i.invariant c.loop-i-test.false
+    all-written b.args.at (number_field b.args.numbers.now) (length b.args.numbers.now) b.args.out.now b.requires c.loop-i.invariant c.loop-i-test.false
 
 pub put_numbers_spec : {M : Type 1} → statement M
 put_numbers_spec =

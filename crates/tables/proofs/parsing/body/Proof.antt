@@ -11,7 +11,7 @@ use Rattle.tables.proofs.parsing.body.Statement.{statement}
 use Rattle.tables.proofs.parsing.body.Tie as tie
 
 -- where the mark line was read, and where the fault lines were
-module _ (m : tie.After-mark-line) where
+module _ (m : tie.After-mark_line-m) where
   abbrev a : tie.Start
   a = m.before.before.before.before.before
 
@@ -21,109 +21,109 @@ module _ (m : tie.After-mark-line) where
   abbrev T : List ℕ
   T = a.args.text.now
 
-module _ (s : tie.After-faults) where
-  abbrev M : tie.After-mark-line
+module _ (s : tie.After-faults-f) where
+  abbrev M : tie.After-mark_line-m
   M = s.before.before.before
 
   abbrev E : ℕ
-  E = M.before.before.before.find.result
+  E = M.before.find-end.result
 
   abbrev faults-read : TableFaults (H M) (T M) (E + 1)
-  faults-read = record { number = s.faults.result.number; place = s.faults.result.place; at = s.faults.result.at; said = s.faults.result.faults; is = s.faults.ensures }
+  faults-read = record { number = s.faults-f.result.number; place = s.faults-f.result.place; at = s.faults-f.result.at; said = s.faults-f.result.faults; is = s.faults-f.ensures }
 
-find-requires : tie.Need-find-requires
+find-requires : tie.Need-find-end-requires
 find-requires c κs = search rules
 
 refused-requires : tie.Need-refused-requires
 refused-requires c κs = search rules
 
-returns : tie.Need-returns
+returns : tie.Need-returns-then-text-end
 returns c =
     let s = c.before.before.before.before in
     let r = c.refused in (
-      table-meant r.result r.ensures.0 r.ensures.1 (λ e. absurd (omega arith)) ∙ sym (table-no-marks s.args.head s.args.text.now s.args.from c.before.before.find.ensures c.before.if1.true),
+      table-meant r.result r.ensures.0 r.ensures.1 (λ e. absurd (omega arith)) ∙ sym (table-no-marks s.args.head s.args.text.now s.args.from c.find-end.ensures c.if-text-end.true),
       r.ensures.2,
       λ e. absurd (omega (arith, e, r.ensures.0)),
     )
 
-sub-mark-line : tie.Need-overflow-sub-mark-line
+sub-mark-line : tie.Need-slice_bounds-mark_line-count
 sub-mark-line c = search rules
 
-part-mark-line-start : tie.Need-slice-bounds-mark-line-start
+part-mark-line-start : tie.Need-slice_bounds-mark_line-start
 part-mark-line-start c = search rules
 
-part-mark-line-end : tie.Need-slice-bounds-mark-line-end
+part-mark-line-end : tie.Need-slice_bounds-mark_line-end
 part-mark-line-end c = search rules
 
-mark-line-requires : tie.Need-mark-line-requires
+mark-line-requires : tie.Need-mark_line-m-requires
 mark-line-requires c κs = search rules
 
-refused-requires-2 : tie.Need-refused-requires-2
+refused-requires-2 : tie.Need-refused-requires-then-m-ne0
 refused-requires-2 c κs = search rules
 
-returns-2 : tie.Need-returns-2
+returns-2 : tie.Need-returns-then-m-ne0
 returns-2 c =
     let m = c.before.before.before in
-    let r = c.refused2 in
-    let stopped = c.before.if2.true in (
+    let r = c.refused-then-m-ne0 in
+    let stopped = c.if-m-ne0.true in (
       table-meant r.result r.ensures.0 r.ensures.1 stopped
-          ∙ sym (marks-stop (H m) (T m) (a m).args.from m.before.before.before.find.ensures m.before.before.if1.false m.mark-line.ensures.0 stopped),
+          ∙ sym (marks-stop (H m) (T m) (a m).args.from m.find-end.ensures m.if-text-end.false m.mark_line-m.ensures.0 stopped),
       r.ensures.2,
       λ e. absurd (stopped (sym r.ensures.0 ∙ e)),
     )
 
-add-faults : tie.Need-overflow-add-faults
+add-faults : tie.Need-overflow_add-end
 add-faults c = search rules
 
-faults-requires : tie.Need-faults-requires
+faults-requires : tie.Need-faults-f-requires
 faults-requires c κs = search rules
 
-refused-requires-3 : tie.Need-refused-requires-3
+refused-requires-3 : tie.Need-refused-requires-then-f-ne0
 refused-requires-3 c κs = search rules
 
-returns-3 : tie.Need-returns-3
+returns-3 : tie.Need-returns-then-f-ne0
 returns-3 c =
     let s = c.before.before.before in
     let m = M s in
-    let r = c.refused3 in
-    let stopped = c.before.if3.true in (
+    let r = c.refused-then-f-ne0 in
+    let stopped = c.if-f-ne0.true in (
       table-meant r.result r.ensures.0 r.ensures.1 stopped
-          ∙ sym (table-faults-stop (H m) (T m) (a m).args.from m.before.before.before.find.ensures m.before.before.if1.left m.mark-line.ensures.0 s.before.if2.false (faults-read s) stopped),
+          ∙ sym (table-faults-stop (H m) (T m) (a m).args.from m.find-end.ensures m.if-text-end.false m.mark_line-m.ensures.0 s.if-m-ne0.false (faults-read s) stopped),
       r.ensures.2,
       λ e. absurd (stopped (sym r.ensures.0 ∙ e)),
     )
 
-add-refused : tie.Need-overflow-add-refused
+add-refused : tie.Need-overflow_add-head
 add-refused c = search rules
 
-refused-requires-4 : tie.Need-refused-requires-4
+refused-requires-4 : tie.Need-refused-requires-then-f-text
 refused-requires-4 c κs = search rules
 
-returns-4 : tie.Need-returns-4
+returns-4 : tie.Need-returns-then-f-text
 returns-4 c =
     let s = c.before.before.before.before.before.before in
     let m = M s in
-    let r = c.refused4 in (
+    let r = c.refused-then-f-text in (
       table-meant r.result r.ensures.0 r.ensures.1 (λ e. absurd (omega arith))
-          ∙ sym (table-bytes-left (H m) (T m) (a m).args.from m.before.before.before.find.ensures m.before.before.if1.left m.mark-line.ensures.0 s.before.if2.false (faults-read s) c.before.before.before.before.if3.false c.before.before.if4.true),
+          ∙ sym (table-bytes-left (H m) (T m) (a m).args.from m.find-end.ensures m.if-text-end.false m.mark_line-m.ensures.0 s.if-m-ne0.false (faults-read s) c.if-f-ne0.false c.if-f-text.true),
       r.ensures.2,
       λ e. absurd (omega (arith, e, r.ensures.0)),
     )
 
-returns-5 : tie.Need-returns-5
+returns-5 : tie.Need-returns
 unfolding table_meaning
 returns-5 c =
     let s = c.before.before.before.before.before.before in
     let m = M s in
-    let q = (a m).pre in (
-      sym (table-all-read (H m) (T m) (a m).args.from m.before.before.before.find.ensures m.before.before.if1.left m.mark-line.ensures.0 s.before.if2.false (faults-read s) c.before.before.before.before.if3.false c.before.before.if4.false
-          m.mark-line.result.marks (m.mark-line.ensures.1 s.before.if2.false)),
+    let q = (a m).requires in (
+      sym (table-all-read (H m) (T m) (a m).args.from m.find-end.ensures m.if-text-end.false m.mark_line-m.ensures.0 s.if-m-ne0.false (faults-read s) c.if-f-ne0.false c.if-f-text.false
+          m.mark_line-m.result.marks (m.mark_line-m.ensures.1 s.if-m-ne0.false)),
       record { inputs = q.0; faults = q.1 },
       λ e. refl,
     )
 
-pub body-spec : {M : Type 1} → statement M
-body-spec =
+pub body_spec : {M : Type 1} → statement M
+body_spec =
     tie.close
     (tie.spec
     find-requires

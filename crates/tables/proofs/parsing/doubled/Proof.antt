@@ -4,17 +4,17 @@ use Rattle.tables.specs.TableLines.{one_mark, free_mark, doubled_mark}
 use Rattle.tables.proofs.parsing.doubled.Statement.{statement}
 use Rattle.tables.proofs.parsing.doubled.Tie as tie
 
-returns : tie.Need-returns
+returns : tie.Need-returns-then-b-eq49
 unfolding doubled_mark
-returns c = rw (eq-eqb c.before.args.b one_mark c.if1.true)
+returns c = rw (eq-eqb c.args.b one_mark c.if-b-eq49.true)
 
-returns-2 : tie.Need-returns-2
+returns-2 : tie.Need-returns-then-b-eq45
 unfolding doubled_mark
-returns-2 c = let b = c.before.before.args.b in rw (ne_eqb b one_mark c.before.if1.false, eq-eqb b free_mark c.if2.true)
+returns-2 c = let b = c.args.b in rw (ne_eqb b one_mark c.if-b-eq49.false, eq-eqb b free_mark c.if-b-eq45.true)
 
-returns-3 : tie.Need-returns-3
+returns-3 : tie.Need-returns-else-b-eq45
 unfolding doubled_mark
-returns-3 c = let b = c.before.before.args.b in rw (ne_eqb b one_mark c.before.if1.false, ne_eqb b free_mark c.if2.false)
+returns-3 c = let b = c.args.b in rw (ne_eqb b one_mark c.if-b-eq49.false, ne_eqb b free_mark c.if-b-eq45.false)
 
-pub doubled-spec : {M : Type 1} → statement M
-doubled-spec = tie.close (tie.spec returns returns-2 returns-3)
+pub doubled_spec : {M : Type 1} → statement M
+doubled_spec = tie.close (tie.spec returns returns-2 returns-3)

@@ -7,5 +7,5 @@ returns : tie.Need-returns
 unfolding is_mark
 returns c = search rules
 
-pub is-mark-spec : {M : Type 1} → statement M
-is-mark-spec = tie.close (tie.spec returns)
+pub is_mark_spec : {M : Type 1} → statement M
+is_mark_spec = tie.close (tie.spec returns)

@@ -7,34 +7,31 @@ use Rattle.tables.proofs.TableAssembling.{table-told}
 use Rattle.tables.proofs.parsing.is_table.Statement.{statement}
 use Rattle.tables.proofs.parsing.is_table.Tie as tie
 
-find-requires : tie.Need-find-requires
+find-requires : tie.Need-find-end-requires
 find-requires c κs = search rules
 
-sub-field : tie.Need-overflow-sub-field
+sub-field : tie.Need-slice_bounds-field-count
 sub-field c = search rules
 
-part-field-start : tie.Need-slice-bounds-field-start
+part-field-start : tie.Need-slice_bounds-field-start
 part-field-start c = search rules
 
-part-field-end : tie.Need-slice-bounds-field-end
-part-field-end c = omega (arith, c.find.ensures, index-le line_end c.before.before.args.text.now)
+part-field-end : tie.Need-slice_bounds-field-end
+part-field-end c = omega (arith, c.find-end.ensures, index-le line_end c.args.text.now)
 
 field-requires : tie.Need-field-requires
 field-requires c κs = search rules
-
-slice-aggregate-same : tie.Need-slice-aggregate-same
-slice-aggregate-same c = search rules
 
 same-requires : tie.Need-same-requires
 same-requires c κs = search rules
 
 returns : tie.Need-returns
 returns c =
-    let f = c.before.before.before.before.find in
-    table-told c.before.before.before.before.before.before.args.text.now f.ensures c.before.before.field.ensures.0 c.same.ensures
+    let f = c.find-end in
+    table-told c.args.text.now f.ensures c.field.ensures.0 c.same.ensures
 
-pub is-table-spec : {M : Type 1} → statement M
-is-table-spec =
+pub is_table_spec : {M : Type 1} → statement M
+is_table_spec =
     tie.close
     (tie.spec
     find-requires
@@ -42,6 +39,5 @@ is-table-spec =
     part-field-start
     part-field-end
     field-requires
-    slice-aggregate-same
     same-requires
     returns)

@@ -14,76 +14,76 @@ use Rattle.tables.proofs.parsing.parse.Tie as tie
 refused-requires : tie.Need-refused-requires
 refused-requires c κs = search rules
 
-returns : tie.Need-returns
+returns : tie.Need-returns-then-text-gt-TEXT_BYTES
 returns c =
-    let text = c.before.before.before.args.text.now in
+    let text = c.args.text.now in
     let r = c.refused in
-    (table-meant r.result r.ensures.0 r.ensures.1 (λ e. absurd (omega arith)) ∙ sym (table-too-long text c.before.if1.true), r.ensures.2, λ e. absurd (omega (arith, e, r.ensures.0)))
+    (table-meant r.result r.ensures.0 r.ensures.1 (λ e. absurd (omega arith)) ∙ sym (table-too-long text c.if-text-gt-TEXT_BYTES.true), r.ensures.2, λ e. absurd (omega (arith, e, r.ensures.0)))
 
-find-requires : tie.Need-find-requires
+find-requires : tie.Need-find-end-requires
 find-requires c κs = search rules
 
-refused-requires-2 : tie.Need-refused-requires-2
+refused-requires-2 : tie.Need-refused-requires-then-text-end
 refused-requires-2 c κs = search rules
 
-returns-2 : tie.Need-returns-2
+returns-2 : tie.Need-returns-then-text-end
 returns-2 c =
-    let text = c.before.before.before.before.before.args.text.now in
-    let r = c.refused2 in
-    let f = c.before.before.find in
-    (table-meant r.result r.ensures.0 r.ensures.1 (λ e. absurd (omega arith)) ∙ sym (table-no-head text c.before.before.before.if1.false f.ensures c.before.if2.true), r.ensures.2, λ e. absurd (omega (arith, e, r.ensures.0)))
+    let text = c.args.text.now in
+    let r = c.refused-then-text-end in
+    let f = c.find-end in
+    (table-meant r.result r.ensures.0 r.ensures.1 (λ e. absurd (omega arith)) ∙ sym (table-no-head text c.if-text-gt-TEXT_BYTES.false f.ensures c.if-text-end.true), r.ensures.2, λ e. absurd (omega (arith, e, r.ensures.0)))
 
-sub-head-line : tie.Need-overflow-sub-head-line
+sub-head-line : tie.Need-slice_bounds-head_line-count
 sub-head-line c = search rules
 
-part-head-line-start : tie.Need-slice-bounds-head-line-start
+part-head-line-start : tie.Need-slice_bounds-head_line-start
 part-head-line-start c = search rules
 
-part-head-line-end : tie.Need-slice-bounds-head-line-end
+part-head-line-end : tie.Need-slice_bounds-head_line-end
 part-head-line-end c = search rules
 
-head-line-requires : tie.Need-head-line-requires
+head-line-requires : tie.Need-head_line-said-requires
 head-line-requires c κs = search rules
 
-refused-requires-3 : tie.Need-refused-requires-3
+refused-requires-3 : tie.Need-refused-requires-then-number-ne0
 refused-requires-3 c κs = search rules
 
-returns-3 : tie.Need-returns-3
+returns-3 : tie.Need-returns-then-number-ne0
 returns-3 c =
-    let text = c.before.before.before.before.before.before.before.before.args.text.now in
-    let r = c.refused3 in
-    let f = c.before.before.before.before.before.find in
-    let h = c.before.before.head-line in
-    let stopped = c.before.if3.true in (
+    let text = c.args.text.now in
+    let r = c.refused-then-number-ne0 in
+    let f = c.find-end in
+    let h = c.head_line-said in
+    let stopped = c.if-number-ne0.true in (
       table-meant r.result r.ensures.0 r.ensures.1 stopped
-          ∙ sym (table-head-stop text c.before.before.before.before.before.before.if1.false f.ensures c.before.before.before.before.if2.false h.ensures.0 stopped),
+          ∙ sym (table-head-stop text c.if-text-gt-TEXT_BYTES.false f.ensures c.if-text-end.false h.ensures.0 stopped),
       r.ensures.2,
       λ e. absurd (stopped (sym r.ensures.0 ∙ e)),
     )
 
-add_body : tie.Need-overflow-add-body
+add_body : tie.Need-overflow_add-end
 add_body c = search rules
 
 body-requires : tie.Need-body-requires
 body-requires c κs =
-    let h = c.before.head-line in
-    let right = subst⁻¹ TableHeadRight h.ensures.1 (table-head-fits _ (sym h.ensures.0 ∙ c.if3.false)) in
+    let h = c.head_line-said in
+    let right = subst⁻¹ TableHeadRight h.ensures.1 (table-head-fits _ (sym h.ensures.0 ∙ c.if-number-ne0.false)) in
     (right.inputs-high, right.faults-high)
 
-returns-4 : tie.Need-returns-4
+returns-4 : tie.Need-returns
 returns-4 c =
-    let text = c.before.before.before.before.before.before.before.before.args.text.now in
-    let f = c.before.before.before.before.before.find in
-    let h = c.before.before.head-line in (
+    let text = c.args.text.now in
+    let f = c.find-end in
+    let h = c.head_line-said in (
       c.body.ensures.0
           ∙ ap (λ (x : TableHead). table_body x (drop (f.result + 1) text)) h.ensures.1
-          ∙ sym (table-head-passed text c.before.before.before.before.before.before.if1.false f.ensures c.before.before.before.before.if2.false h.ensures.0 c.before.if3.false),
+          ∙ sym (table-head-passed text c.if-text-gt-TEXT_BYTES.false f.ensures c.if-text-end.false h.ensures.0 c.if-number-ne0.false),
       c.body.ensures.1,
       c.body.ensures.2,
     )
 
-pub parse-spec : {M : Type 1} → statement M
-parse-spec =
+pub parse_spec : {M : Type 1} → statement M
+parse_spec =
     tie.close
     (tie.spec
     refused-requires
