@@ -2,8 +2,7 @@
 # The benchmark from nothing: proves and builds the library and the program, builds both packages, prints the table.
 set -eu
 cd "$(dirname "$0")/.."
-rt check signature > /dev/null
-rt staticlib capi > /dev/null
+bash tools/build
 cd reference
 cargo build --release --offline --locked --bins
 exec target/release/benchmark

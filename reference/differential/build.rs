@@ -11,7 +11,7 @@ fn main() {
     println!("cargo:rerun-if-changed={}", archive.display());
     if !archive.is_file() {
         eprintln!(
-            "{} is missing: run `rt check` and `rt staticlib capi` first",
+            "{} is missing: run `bash tools/build` first",
             archive.display()
         );
         exit(1);

@@ -1,6 +1,6 @@
 //! The stored cases: the file is what the second implementation would write
 //! today, and there are cases of every kind. That the library meets them is
-//! tried by the program `vectors` (`rt check vectors`), which must see every
+//! tried by the program `vectors` (`bash tools/build vectors`), which must see every
 //! case that is not as it should be; the gate has built it before these tests.
 
 use differential::outcomes::Outcomes;

@@ -38,7 +38,7 @@ fn below(folder: &Path, found: &mut Vec<PathBuf>) {
     for entry in entries {
         let path = entry.expect("an entry").path();
         let name = path.file_name().expect("a name");
-        if name == "target" || name == ".git" {
+        if name == "target" || name == "out" || name == ".git" {
             continue;
         }
         if path.is_dir() {
@@ -113,7 +113,9 @@ fn crates_with_others() -> BTreeMap<String, Names> {
         .filter_map(|line| line.split_once(':'))
         .map(|(name, others)| {
             let others = others.split_whitespace().map(str::to_string);
-            (name.trim().to_string(), others.collect())
+            // "staticlib" may stand after the name.
+            let name = name.split_whitespace().next().expect("a crate's name");
+            (name.to_string(), others.collect())
         })
         .collect()
 }

@@ -10,43 +10,43 @@ use Rattle.circuit.proofs.CircuitLaws.{text-stop, fault-stop, served, served-spe
 use Rattle.circuit.proofs.circuit_spectrum.Statement.{statement}
 use Rattle.circuit.proofs.circuit_spectrum.Tie as tie
 
-describe-requires : tie.Need-describe-requires
+describe-requires : tie.Need-describe-r-requires
 describe-requires c κs = search rules
 
-returns : tie.Need-returns
+returns : tie.Need-returns-then-number-ne0
 returns c =
     let a = c.before.before.before.args in
-    let r = c.before.describe in
-    (sym (text-stop a.text.now a.fault (length a.out.now) r.result r.ensures.0 c.if1.true), refl)
+    let r = c.before.describe-r in
+    (sym (text-stop a.text.now a.fault (length a.out.now) r.result r.ensures.0 c.if-number-ne0.true), refl)
 
-returns-2 : tie.Need-returns-2
+returns-2 : tie.Need-returns-then-d-which
 returns-2 c =
     let a = c.before.before.before.before.before.before.args in
-    let r = c.before.before.before.before.describe in
-    let z = c.before.before.before.if1.false in
-    (sym (fault-stop a.text.now a.fault (length a.out.now) r.result r.ensures.0 z (r.ensures.1 z).faults-counted c.if2.true), refl)
+    let r = c.before.before.before.before.describe-r in
+    let z = c.before.before.before.if-number-ne0.false in
+    (sym (fault-stop a.text.now a.fault (length a.out.now) r.result r.ensures.0 z (r.ensures.1 z).faults-counted c.if-d-which.true), refl)
 
-fault-spectrum-requires : tie.Need-fault-spectrum-requires
+fault-spectrum-requires : tie.Need-fault_spectrum-requires
 fault-spectrum-requires c κs =
-    let r = c.before.before.before.before.before.describe in
-    (r.ensures.1 c.before.before.before.before.if1.false, c.before.if2.false)
+    let r = c.before.before.before.before.before.describe-r in
+    (r.ensures.1 c.before.before.before.before.if-number-ne0.false, c.before.if-d-which.false)
 
-same_length : tie.Need-same-length
+same_length : tie.Need-shape_of-out
 same_length c = search rules
 
-returns-3 : tie.Need-returns-3
+returns-3 : tie.Need-returns
 unfolding fault_spectrum
 returns-3 c =
     let a = c.before.before.before.before.before.before.before.before.before.args in
-    let r = c.before.before.before.before.before.before.before.describe in
-    let z = c.before.before.before.before.before.before.if1.false in
-    let s = c.before.fault-spectrum in (
-      s.ensures.0 ∙ sym (served a.text.now a.fault (length a.out.now) r.result r.ensures.0 z (r.ensures.1 z).faults-counted c.before.before.before.if2.false),
+    let r = c.before.before.before.before.before.before.before.describe-r in
+    let z = c.before.before.before.before.before.before.if-number-ne0.false in
+    let s = c.before.fault_spectrum in (
+      s.ensures.0 ∙ sym (served a.text.now a.fault (length a.out.now) r.result r.ensures.0 z (r.ensures.1 z).faults-counted c.before.before.before.if-d-which.false),
       s.ensures.1 ∙ ap (λ (l : List ℤ). leaves s.result l a.out.now) (sym (served-spectrum a.text.now a.fault 0 r.result r.ensures.0 z)),
     )
 
-pub circuit-spectrum-spec : {M : Type 1} → statement M
-circuit-spectrum-spec =
+pub circuit_spectrum_spec : {M : Type 1} → statement M
+circuit_spectrum_spec =
     tie.close
     (tie.spec
     describe-requires

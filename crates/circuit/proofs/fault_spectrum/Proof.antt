@@ -12,28 +12,28 @@ use Rattle.circuit.proofs.fault_spectrum.Tie as tie
 eight : (s : tie.Start) → s.args.d.inputs ≤ 8
 eight s = inputs-few s.args.d s.requires.0
 
-shl-due : tie.Need-overflow-shl-due
+shl-due : tie.Need-overflow_shl-due
 shl-due c = omega (arith, eight c.before)
 
-array-borrow-prefix-rows : tie.Need-array-borrow-prefix-rows
+array-borrow-prefix-rows : tie.Need-slice_bounds-rows-end
 array-borrow-prefix-rows c = due-few c.before.args.d.inputs (eight c.before)
 
-slice-aggregate-spectrum-by : tie.Need-slice-aggregate-spectrum-by
+slice-aggregate-spectrum-by : tie.Need-slice_bounds-spectrum_by-end
 slice-aggregate-spectrum-by c = sym (length-take-le _ _ (due-few c.before.before.args.d.inputs (eight c.before.before)))
 
-spectrum-by-requires : tie.Need-spectrum-by-requires
+spectrum-by-requires : tie.Need-spectrum_by-requires
 spectrum-by-requires c κs =
     let s = c.before.before.before in
     (s.requires.0, s.requires.1, length-take-le _ _ (due-few s.args.d.inputs (eight s)) ∙ due-is s.args.d.inputs (eight s))
 
-same_length : tie.Need-same-length
+same_length : tie.Need-shape_of-out
 same_length c = search rules
 
 returns : tie.Need-returns
 returns c = search rules
 
-pub fault-spectrum-spec : {M : Type 1} → statement M
-fault-spectrum-spec =
+pub fault_spectrum_spec : {M : Type 1} → statement M
+fault_spectrum_spec =
     tie.close
     (tie.spec
     shl-due

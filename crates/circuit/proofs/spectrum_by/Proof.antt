@@ -21,24 +21,24 @@ rows-requires c κs = search rules
 spectrum-requires : tie.Need-spectrum-requires
 spectrum-requires c κs = search rules
 
-same_length : tie.Need-same-length
+same_length : tie.Need-shape_of-rows
 same_length c = search rules
 
-same-length-2 : tie.Need-same-length-2
+same-length-2 : tie.Need-shape_of-out
 same-length-2 c = search rules
 
 returns : tie.Need-returns
 unfolding problem_of problem_from
 returns c =
-    let s = c.before.before.before.before.before.before.before in
+    let s = c in
     let p = problem_of s.args.d in
     let list = rows_at p s.args.fault in
     let room = length s.args.out.now in
     let fit = s.requires.0 in
     let named : s.args.fault ≤ length p.faulted = omega (arith, fit.faults-counted, s.requires.1) in
-    let called = subst (λ (l : List ℤ). (c.before.spectrum.result ≡ spectrum_answer l room) × (c.before.spectrum.new.1.0 ≡ leaves c.before.spectrum.result (spectrum_of l) s.args.out.now)) c.before.before.before.before.before.rows.ensures c.before.spectrum.ensures in
+    let called = subst (λ (l : List ℤ). (c.spectrum.result ≡ spectrum_answer l room) × (c.spectrum.new.out ≡ leaves c.spectrum.result (spectrum_of l) s.args.out.now)) c.rows.ensures c.spectrum.ensures in
     (called.0 ∙ spectrum-room list p.inputs room fit.proper.inputs-low fit.proper.inputs-high (fit.proper.rows_all s.args.fault named) (rows_fit p fit.proper s.args.fault named), called.1)
 
-pub spectrum-by-spec : {M : Type 1} → statement M
-spectrum-by-spec =
+pub spectrum_by_spec : {M : Type 1} → statement M
+spectrum_by_spec =
     tie.close (tie.spec rows-requires spectrum-requires same_length same-length-2 returns)

@@ -8,44 +8,44 @@ use Rattle.devices.proofs.Descriptions.{table-text, circuit-text}
 use Rattle.devices.proofs.describe.Statement.{statement}
 use Rattle.devices.proofs.describe.Tie as tie
 
-parse-requires : tie.Need-parse-requires
+parse-requires : tie.Need-parse-c-requires
 parse-requires c κs = search rules
 
-is-table-requires : tie.Need-is-table-requires
+is-table-requires : tie.Need-is_table-requires
 is-table-requires c κs = search rules
 
-parse-requires-2 : tie.Need-parse-requires-2
+parse-requires-2 : tie.Need-parse-requires
 parse-requires-2 c κs = search rules
 
-of-table-requires : tie.Need-of-table-requires
+of-table-requires : tie.Need-of_table-requires
 of-table-requires c κs =
-    let p = c.parse2 in
+    let p = c.parse in
     (p.ensures.1, λ z. table-accepted-right c.before.before.before.before.before.args.text.now p.result p.ensures.0 z)
 
-returns : tie.Need-returns
+returns : tie.Need-returns-then-is_table
 returns c =
-    let p = c.before.parse2 in
-    let r = c.of-table.ensures in
-    let e = table-text c.before.before.before.before.before.before.args.text.now (sym c.before.before.before.is-table.ensures ∙ c.before.before.if1.true) in
+    let p = c.before.parse in
+    let r = c.of_table.ensures in
+    let e = table-text c.before.before.before.before.before.before.args.text.now (sym c.before.before.before.is_table.ensures ∙ c.before.before.if-is_table.true) in
     (r.0 ∙ ap of_table p.ensures.0 ∙ sym e, r.1, λ z. r.3 ∙ p.ensures.2 (sym r.2 ∙ z))
 
-no-table-requires : tie.Need-no-table-requires
+no-table-requires : tie.Need-no_table-requires
 no-table-requires c κs = search rules
 
-of-circuit-requires : tie.Need-of-circuit-requires
+of-circuit-requires : tie.Need-of_circuit-requires
 of-circuit-requires c κs =
-    let p = c.before.before.before.parse in
+    let p = c.before.before.before.parse-c in
     (p.ensures.1, λ z. accepted-right c.before.before.before.before.before.args.text.now p.result p.ensures.0 z)
 
-returns-2 : tie.Need-returns-2
+returns-2 : tie.Need-returns
 returns-2 c =
-    let p = c.before.before.before.before.parse in
-    let r = c.of-circuit.ensures in
-    let e = circuit-text c.before.before.before.before.before.before.args.text.now (sym c.before.before.before.is-table.ensures ∙ c.before.before.if1.false) in
+    let p = c.before.before.before.before.parse-c in
+    let r = c.of_circuit.ensures in
+    let e = circuit-text c.before.before.before.before.before.before.args.text.now (sym c.before.before.before.is_table.ensures ∙ c.before.before.if-is_table.false) in
     (r.0 ∙ ap of_circuit p.ensures.0 ∙ sym e, r.1, λ z. r.3 ∙ p.ensures.2 (sym r.2 ∙ z))
 
-pub describe-spec : {M : Type 1} → statement M
-describe-spec =
+pub describe_spec : {M : Type 1} → statement M
+describe_spec =
     tie.close
     (tie.spec
     parse-requires

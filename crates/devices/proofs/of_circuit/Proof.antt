@@ -15,5 +15,5 @@ returns c =
     let s = c.before in
     (circuit-means s.args.p s.args.table, λ z. circuit-fits s.args.p.circuit s.args.table s.requires.0 (s.requires.1 z) (filled s), refl, refl)
 
-pub of-circuit-spec : {M : Type 1} → statement M
-of-circuit-spec = tie.close (tie.spec returns)
+pub of_circuit_spec : {M : Type 1} → statement M
+of_circuit_spec = tie.close (tie.spec returns)

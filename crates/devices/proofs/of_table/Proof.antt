@@ -15,5 +15,5 @@ returns c =
     let s = c.before in
     (table-means s.args.p s.args.circuit, λ z. table_fits s.args.p.table s.args.circuit s.requires.0 (s.requires.1 z) (filled s), refl, refl)
 
-pub of-table-spec : {M : Type 1} → statement M
-of-table-spec = tie.close (tie.spec returns)
+pub of_table_spec : {M : Type 1} → statement M
+of_table_spec = tie.close (tie.spec returns)

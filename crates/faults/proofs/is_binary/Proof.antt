@@ -2,6 +2,7 @@
 use borrow.Author.Rules.{rules}
 use mathlib.Core.Path.{◌≡◌, refl, sym, ◌∙◌}
 use Prim.Native.Nat.{◌-◌, ◌≤◌}
+use native.Mathlib.Omega.{arith}
 use lib.ListN.{length, drop}
 use Rattle.faults.specs.Faults.{binary}
 use Rattle.faults.proofs.Arguments.{binary-stop, binary-next, binary-end}
@@ -23,11 +24,6 @@ mul-value c = search rules
 shared-slice-read-value : tie.Need-bounds-values-i invariant-loop decreases-loop
 shared-slice-read-value c = search rules
 
-returns : tie.Need-returns-then-value-gt1 invariant-loop decreases-loop
-returns c =
-    let l = c.before.before.before in
-    sym (l.loop-i.invariant.1 ∙ binary-stop l.before.args.values.now l.loop-i.i c.before.before.loop-i-test.true c.if-value-gt1.true)
-
 add-i : tie.Need-overflow_add-i invariant-loop decreases-loop
 add-i c = search rules
 
@@ -37,7 +33,7 @@ loop-less c = search rules
 loop-again : tie.Need-loop-i-preserved invariant-loop decreases-loop
 loop-again c =
     let l = c.before.before.before in
-    (search rules, l.loop-i.invariant.1 ∙ binary-next l.before.args.values.now l.loop-i.i c.before.before.loop-i-test.true c.if-value-gt1.false)
+    (search rules, l.loop-i.invariant.1 ∙ binary-next l.before.args.values.now l.loop-i.i c.before.before.loop-i-test.true (omega arith))
 
 returns-2 : tie.Need-returns invariant-loop decreases-loop
 returns-2 c = let l = c.before in sym (l.loop-i.invariant.1 ∙ binary-end l.before.args.values.now l.loop-i.i c.loop-i-test.false)
@@ -51,7 +47,7 @@ is_binary_spec =
     loop-holds
     mul-value
     shared-slice-read-value
-    returns
+    (λ c. sym (c.loop-i.invariant.1 ∙ binary-stop c.args.values.now c.loop-i.i c.loop-i-test.true (omega arith)))
     add-i
     loop-less
     loop-again

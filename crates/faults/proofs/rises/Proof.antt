@@ -2,6 +2,7 @@
 use borrow.Author.Rules.{rules}
 use mathlib.Core.Path.{◌≡◌, refl, sym, ◌∙◌}
 use Prim.Native.Nat.{◌-◌, ◌≤◌}
+use native.Mathlib.Omega.{arith}
 use lib.ListN.{length, drop}
 use Rattle.faults.specs.Faults.{rising_inputs}
 use Rattle.faults.proofs.Arguments.{rising-low, rising-high, rising-next, rising-end}
@@ -29,12 +30,6 @@ returns c =
     let a = l.before.args in
     sym (l.loop-i.invariant.1 ∙ rising-low l.loop-i.last a.n a.lines.now l.loop-i.i c.before.before.loop-i-test.true c.if-line-last.true)
 
-returns-2 : tie.Need-returns-then-n-line invariant-loop decreases-loop
-returns-2 c =
-    let l = c.before.before.before.before in
-    let a = l.before.args in
-    sym (l.loop-i.invariant.1 ∙ rising-high l.loop-i.last a.n a.lines.now l.loop-i.i c.before.before.before.loop-i-test.true c.before.if-line-last.false c.if-n-line.true)
-
 add-i : tie.Need-overflow_add-i invariant-loop decreases-loop
 add-i c = search rules
 
@@ -45,7 +40,7 @@ loop-again : tie.Need-loop-i-preserved invariant-loop decreases-loop
 loop-again c =
     let l = c.before.before.before.before in
     let a = l.before.args in
-    (search rules, l.loop-i.invariant.1 ∙ rising-next l.loop-i.last a.n a.lines.now l.loop-i.i c.before.before.before.loop-i-test.true c.before.if-line-last.false c.if-n-line.false)
+    (search rules, l.loop-i.invariant.1 ∙ rising-next l.loop-i.last a.n a.lines.now l.loop-i.i c.before.before.before.loop-i-test.true c.before.if-line-last.false (omega arith))
 
 returns-3 : tie.Need-returns invariant-loop decreases-loop
 returns-3 c =
@@ -63,7 +58,7 @@ rises_spec =
     mul-line
     shared-slice-read-line
     returns
-    returns-2
+    (λ c. sym (c.loop-i.invariant.1 ∙ rising-high c.loop-i.last c.args.n c.args.lines.now c.loop-i.i c.loop-i-test.true c.if-line-last.false (omega arith)))
     add-i
     loop-less
     loop-again

@@ -5,7 +5,7 @@ use mir.ValLaws.{to_z-of_z}
 use Rattle.lookup.proofs.wide.Statement.{statement}
 use Rattle.lookup.proofs.wide.Tie as tie
 
-cast-result : tie.Need-overflow-cast-result
+cast-result : tie.Need-overflow_cast-result
 cast-result c = search rules
 
 returns : tie.Need-returns

@@ -1,19 +1,15 @@
 use borrow.Author.Tests.{eq-eqb, ne_eqb}
+use native.Mathlib.Omega.{arith}
 use Rattle.reading.specs.Readings.{case_of}
 use Rattle.reading.proofs.case_of.Statement.{statement}
 use Rattle.reading.proofs.case_of.Tie as tie
 
-returns : tie.Need-returns-then-mask-ne0
-unfolding case_of
-returns c = rw (ne_eqb c.before.args.mask 0 c.if-mask-ne0.true)
-
-returns-2 : tie.Need-returns-then-weighted
-unfolding case_of
-returns-2 c = rw (eq-eqb c.before.before.args.mask 0 c.before.if-mask-ne0.false, c.if-weighted.true)
-
-returns-3 : tie.Need-returns-else-weighted
-unfolding case_of
-returns-3 c = rw (eq-eqb c.before.before.args.mask 0 c.before.if-mask-ne0.false, c.if-weighted.false)
-
+-- the constrained case, the weighted one, the plain one
 pub case_of_spec : {M : Type 1} → statement M
-case_of_spec = tie.close (tie.spec returns returns-2 returns-3)
+unfolding case_of
+case_of_spec =
+    tie.close
+    (tie.spec
+    (λ c. rw (ne_eqb c.args.mask 0 (omega arith)))
+    (λ c. rw (eq-eqb c.args.mask 0 (omega arith), c.if-weighted.true))
+    (λ c. rw (eq-eqb c.args.mask 0 (omega arith), c.if-weighted.false)))

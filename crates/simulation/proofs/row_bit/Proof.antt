@@ -4,23 +4,23 @@ use Rattle.simulation.specs.Steps.{row_bit_of}
 use Rattle.simulation.proofs.row_bit.Statement.{statement}
 use Rattle.simulation.proofs.row_bit.Tie as tie
 
-returns : tie.Need-returns
+returns : tie.Need-returns-then-input-eq0
 unfolding row_bit_of
-returns c = (simp c.if1.true, search rules)
+returns c = (simp c.if-input-eq0.true, search rules)
 
-sub-result : tie.Need-overflow-sub-result
+sub-result : tie.Need-overflow_sub-result
 sub-result c = search rules
 
-cast-result : tie.Need-overflow-cast-result
+cast-result : tie.Need-overflow_cast-result
 cast-result c = search rules
 
-returns-2 : tie.Need-returns-2
+returns-2 : tie.Need-returns-then-input-lt9
 unfolding row_bit_of
-returns-2 c = (simp (lt-ltb _ _ c.if2.true), search rules)
+returns-2 c = (simp (lt-ltb _ _ c.if-input-lt9.true), search rules)
 
-returns-3 : tie.Need-returns-3
+returns-3 : tie.Need-returns-else-input-lt9
 unfolding row_bit_of
-returns-3 c = (simp (le-ltb _ _ c.if2.false), search rules)
+returns-3 c = (simp (le-ltb _ _ c.if-input-lt9.false), search rules)
 
-pub row-bit-spec : {M : Type 1} → statement M
-row-bit-spec = tie.close (tie.spec returns sub-result cast-result returns-2 returns-3)
+pub row_bit_spec : {M : Type 1} → statement M
+row_bit_spec = tie.close (tie.spec returns sub-result cast-result returns-2 returns-3)

@@ -13,52 +13,52 @@ use Rattle.simulation.specs.Steps.{read_sum}
 use Rattle.simulation.proofs.row_values.Statement.{statement}
 use Rattle.simulation.proofs.row_values.Tie as tie
 
-abbrev invariant-loop : tie.invariant-loop
+abbrev invariant-loop : tie.invariant-loop-x
 invariant-loop values outputs count out₀ x₀ out x = (x ≤ length out₀) × (length out ≡ length out₀) × (out ≡ tab x (read_sum values outputs count) ++ drop x out₀)
 
-abbrev decreases-loop : tie.decreases-loop
+abbrev decreases-loop : tie.decreases-loop-x
 decreases-loop values outputs count out₀ x₀ out x = length out₀ - x
 
-loop-holds : tie.Need-loop-init invariant-loop decreases-loop
+loop-holds : tie.Need-loop-x-init invariant-loop decreases-loop
 unfolding tab
 loop-holds c = (search rules, refl, refl)
 
-row-value-requires : tie.Need-row-value-requires invariant-loop decreases-loop
+row-value-requires : tie.Need-row_value-requires invariant-loop decreases-loop
 row-value-requires c κs = search rules
 
-mul-t6 : tie.Need-overflow-mul-t6 invariant-loop decreases-loop
+mul-t6 : tie.Need-offset_bounds-out-x invariant-loop decreases-loop
 mul-t6 c = search rules
 
-slice-set-from-out : tie.Need-slice-set-from-out invariant-loop decreases-loop
+slice-set-from-out : tie.Need-bounds-out-x invariant-loop decreases-loop
 slice-set-from-out c = search rules
 
-add-x : tie.Need-overflow-add-x invariant-loop decreases-loop
+add-x : tie.Need-overflow_add-x invariant-loop decreases-loop
 add-x c = search rules
 
-loop-less : tie.Need-loop-smaller invariant-loop decreases-loop
+loop-less : tie.Need-loop-x-smaller invariant-loop decreases-loop
 loop-less c = search rules
 
-loop-again : tie.Need-loop-preserved invariant-loop decreases-loop
+loop-again : tie.Need-loop-x-preserved invariant-loop decreases-loop
 loop-again c =
     let l = c.before.before in
     let a = l.before.before.args in (
       search rules,
-      length-set l.loop.out l.loop.x _ ∙ l.loop.invariant.1,
-      write-turn a.out.now l.loop.out (read_sum a.values.now a.outputs a.count) l.loop.x _ (omega arith) l.loop.invariant.2
-          (to_z-of_z w32 c.row-value.result (record { sfits = c.row-value.type-inv }) ∙ c.row-value.ensures),
+      length-set l.loop-x.out l.loop-x.x _ ∙ l.loop-x.invariant.1,
+      write-turn a.out.now l.loop-x.out (read_sum a.values.now a.outputs a.count) l.loop-x.x _ (omega arith) l.loop-x.invariant.2
+          (to_z-of_z w32 c.row_value.result (record { sfits = c.row_value.type_inv }) ∙ c.row_value.ensures),
     )
 
-same_length : tie.Need-same-length invariant-loop decreases-loop
+same_length : tie.Need-shape_of-out invariant-loop decreases-loop
 same_length c = search rules
 
 returns : tie.Need-returns invariant-loop decreases-loop
 returns c =
-    let l = c.before.loop in
+    let l = c.before.loop-x in
     let a = c.before.before.before.args in
     l.invariant.2 ∙ filled (read_sum a.values.now a.outputs a.count) a.out.now l.x (omega arith)
 
-pub row-values-spec : {M : Type 1} → statement M
-row-values-spec =
+pub row_values_spec : {M : Type 1} → statement M
+row_values_spec =
     tie.close
     (tie.spec
     invariant-loop

@@ -6,49 +6,49 @@ use Rattle.planner.proofs.PlanLaws.{verdict-text, verdict-room, verdict-served, 
 use Rattle.planner.proofs.plan_call.plan.Statement.{statement}
 use Rattle.planner.proofs.plan_call.plan.Tie as tie
 
-describe-requires : tie.Need-describe-requires
+describe-requires : tie.Need-describe-r-requires
 describe-requires c κs = search rules
 
 refuse-requires : tie.Need-refuse-requires
 refuse-requires c κs = search rules
 
-returns : tie.Need-returns
+returns : tie.Need-returns-then-number-ne0
 unfolding plan_answer
 returns c =
     let a = c.before.before.before.before.before.args in
-    let r = c.before.before.describe in
-    let v = verdict-text a.text.now (length a.work.now) r.result r.ensures.0 c.before.if1.true in
+    let r = c.before.before.describe-r in
+    let v = verdict-text a.text.now (length a.work.now) r.result r.ensures.0 c.before.if-number-ne0.true in
     rw v (c.refuse.ensures, kept _ a.work.now)
 
-refuse-requires-2 : tie.Need-refuse-requires-2
+refuse-requires-2 : tie.Need-refuse-requires-then-work-lt-WORKING_NUMBERS
 refuse-requires-2 c κs = search rules
 
-returns-2 : tie.Need-returns-2
+returns-2 : tie.Need-returns-then-work-lt-WORKING_NUMBERS
 unfolding plan_answer
 returns-2 c =
     let a = c.before.before.before.before.before.before.args in
-    let r = c.before.before.before.describe in
-    let v = verdict-room a.text.now (length a.work.now) r.result r.ensures.0 c.before.before.if1.false c.before.if2.true in
-    rw v (c.refuse2.ensures, kept _ a.work.now)
+    let r = c.before.before.before.describe-r in
+    let v = verdict-room a.text.now (length a.work.now) r.result r.ensures.0 c.before.before.if-number-ne0.false c.before.if-work-lt-WORKING_NUMBERS.true in
+    rw v (c.refuse-then-work-lt-WORKING_NUMBERS.ensures, kept _ a.work.now)
 
-plan-device-requires : tie.Need-plan-device-requires
+plan-device-requires : tie.Need-plan_device-requires
 plan-device-requires c κs =
-    let r = c.before.before.before.describe in
-    (r.ensures.1 c.before.before.if1.false, c.before.if2.false)
+    let r = c.before.before.before.describe-r in
+    (r.ensures.1 c.before.before.if-number-ne0.false, c.before.if-work-lt-WORKING_NUMBERS.false)
 
-same_length : tie.Need-same-length
+same_length : tie.Need-shape_of-work
 same_length c = search rules
 
-returns-3 : tie.Need-returns-3
+returns-3 : tie.Need-returns
 unfolding plan_answer
 returns-3 c =
     let a = c.before.before.before.before.before.before.before.before.before.args in
-    let r = c.before.before.before.before.before.before.describe in
-    let v = verdict-served a.text.now (length a.work.now) r.result r.ensures.0 c.before.before.before.before.before.if1.false c.before.before.before.before.if2.false in
-    rw v c.before.before.plan-device.ensures
+    let r = c.before.before.before.before.before.before.describe-r in
+    let v = verdict-served a.text.now (length a.work.now) r.result r.ensures.0 c.before.before.before.before.before.if-number-ne0.false c.before.before.before.before.if-work-lt-WORKING_NUMBERS.false in
+    rw v c.before.before.plan_device.ensures
 
-pub plan-spec : {M : Type 1} → statement M
-plan-spec =
+pub plan_spec : {M : Type 1} → statement M
+plan_spec =
     tie.close
     (tie.spec
     describe-requires

@@ -20,63 +20,63 @@ module _ (s : tie.Start) where
   few = due-few s.args.d.inputs eight
 
   room : due s.args.d.inputs eight ≤ length s.args.work.now
-  room = due-fits s.args.d.inputs eight s.args.work.now (omega (arith, s.pre.1))
+  room = due-fits s.args.d.inputs eight s.args.work.now (omega (arith, s.requires.1))
 
-labels-room : (t : tie.After-labels-below) → let s = t.before.before.before in due s.args.d.inputs (eight s) ≤ length t.labels-below.result
+labels-room : (t : tie.After-labels_below-labels) → let s = t.before.before.before in due s.args.d.inputs (eight s) ≤ length t.labels_below-labels.result
 labels-room t =
     let s = t.before.before.before in
-    let full : length t.labels-below.result ≡ 256 = search rules in
-    due-fits s.args.d.inputs (eight s) t.labels-below.result (omega arith)
+    let full : length t.labels_below-labels.result ≡ 256 = search rules in
+    due-fits s.args.d.inputs (eight s) t.labels_below-labels.result (omega arith)
 
-shl-due : tie.Need-overflow-shl-due
+shl-due : tie.Need-overflow_shl-due
 shl-due c = omega (arith, eight c.before.before)
 
-labels-below-requires : tie.Need-labels-below-requires
+labels-below-requires : tie.Need-labels_below-labels-requires
 labels-below-requires c κs = search rules
 
-array-borrow-prefix-sound : tie.Need-array-borrow-prefix-sound
+array-borrow-prefix-sound : tie.Need-slice_bounds-sound-end
 array-borrow-prefix-sound c = few c.before.before.before
 
-slice-aggregate-plan-by : tie.Need-slice-aggregate-plan-by
+slice-aggregate-plan-by : tie.Need-slice_bounds-plan_by-end
 slice-aggregate-plan-by c = sym (length-take-le _ _ (few c.before.before.before.before))
 
-array-borrow-prefix-faulted : tie.Need-array-borrow-prefix-faulted
+array-borrow-prefix-faulted : tie.Need-slice_bounds-faulted-end
 array-borrow-prefix-faulted c = few c.before.before.before.before
 
-slice-aggregate-plan-by-2 : tie.Need-slice-aggregate-plan-by-2
+slice-aggregate-plan-by-2 : tie.Need-slice_bounds-plan_by-end-2
 slice-aggregate-plan-by-2 c = sym (length-take-le _ _ (few c.before.before.before.before.before))
 
-array-share-prefix-labels : tie.Need-array-share-prefix-labels
+array-share-prefix-labels : tie.Need-slice_bounds-labels-end
 array-share-prefix-labels c = labels-room c.before.before
 
-slice-aggregate-plan-by-3 : tie.Need-slice-aggregate-plan-by-3
+slice-aggregate-plan-by-3 : tie.Need-slice_bounds-plan_by-end-3
 slice-aggregate-plan-by-3 c = sym (length-take-le _ _ (labels-room c.before.before.before))
 
-slice-relend-prefix-plan-by : tie.Need-slice-relend-prefix-plan-by
+slice-relend-prefix-plan-by : tie.Need-slice_bounds-plan_by-end-4
 slice-relend-prefix-plan-by c = room c.before.before.before.before.before.before
 
-slice-aggregate-plan-by-4 : tie.Need-slice-aggregate-plan-by-4
+slice-aggregate-plan-by-4 : tie.Need-slice_bounds-plan_by-end-5
 slice-aggregate-plan-by-4 c = sym (length-take-le _ _ (room c.before.before.before.before.before.before.before))
 
-plan-by-requires : tie.Need-plan-by-requires
+plan-by-requires : tie.Need-plan_by-requires
 plan-by-requires c κs =
     let s = c.before.before.before.before.before.before.before in
-    let l = c.before.before.before.before.labels-below in
+    let l = c.before.before.before.before.labels_below-labels in
     let all = due-is s.args.d.inputs (eight s) in
     let rows = length-take-le _ _ (few s) ∙ all in
     ((s.requires.0, rows, rows, length-take-le _ _ (room s) ∙ all), front-labels s.args.d.inputs (eight s) l.result l.ensures)
 
-same_length : tie.Need-same-length
+same_length : tie.Need-shape_of-work
 same_length c = search rules
 
 returns : tie.Need-returns
 returns c =
     let s = c.before.before.before.before.before.before.before.before.before.before.before.before in
-    let r = c.before.before.before.before.plan-by in
-    (r.ensures, front-used s.args.d.inputs (eight s) (problem_of s.args.d) r.new.1.1.1.1.0 s.args.work.now (r.auto.1.1.1.1.0 ∙ length-take-le _ _ (room s)))
+    let r = c.before.before.before.before.plan_by in
+    (r.ensures, front-used s.args.d.inputs (eight s) (problem_of s.args.d) r.new.masks s.args.work.now (r.auto.masks ∙ length-take-le _ _ (room s)))
 
-pub plan-device-spec : {M : Type 1} → statement M
-plan-device-spec =
+pub plan_device_spec : {M : Type 1} → statement M
+plan_device_spec =
     tie.close
     (tie.spec
     shl-due
