@@ -4,7 +4,7 @@
 --   circuit-described, table-described    what an accepted text describes
 --   described-from         and every text that describes something is one of these
 use mathlib.Core.Path.{◌≡◌, refl, sym, ap, ◌∙◌}
-use mathlib.Core.Bool.{Bool, true, false, cond, ◌&&◌, false≢true}
+use mathlib.Core.Bool.{Bool, true, false, cond, false≢true}
 use mathlib.Core.List.{List}
 use mathlib.Core.Logic.{◌⊎◌, inl, inr}
 use Prim.Native.Nat.{ℕ, ◌≤◌}
@@ -13,7 +13,7 @@ use lib.ListN.{length}
 use borrow.Author.Tests.{le-ltb}
 use Rattle.text.specs.Text.{text_bytes, before, after, has_byte, line_end, field_of, same_bytes}
 use Rattle.text.proofs.Words.{same-equal, same_self}
-use Rattle.integer.proofs.Bools.{both, clash}
+use Rattle.integer.proofs.Bools.{clash}
 use Rattle.fields.specs.Fields.{unless}
 use Rattle.fields.proofs.JoinedLines.{word-is}
 use Rattle.fields.proofs.Chains.{unless-passed}
