@@ -1,4 +1,4 @@
--- The answer of the parser that is meant, as a device.
+-- The answer of the parser that is meant, as a device. Nothing here is named after the test, which an edit of must-fail/ turns round.
 use borrow.Author.Rules.{rules}
 use mathlib.Core.Path.{sym, ap, ◌∙◌}
 use Rattle.netlist.proofs.Acceptance.{accepted-right}
@@ -22,13 +22,6 @@ of-table-requires c κs =
     let p = c.parse in
     (p.ensures.1, λ z. table-accepted-right c.before.before.before.before.before.args.text.now p.result p.ensures.0 z)
 
-returns : tie.Need-returns-then-is_table
-returns c =
-    let p = c.before.parse in
-    let r = c.of_table.ensures in
-    let e = table-text c.before.before.before.before.before.before.args.text.now (sym c.before.before.before.is_table.ensures ∙ c.before.before.if-is_table.true) in
-    (r.0 ∙ ap of_table p.ensures.0 ∙ sym e, r.1, λ z. r.3 ∙ p.ensures.2 (sym r.2 ∙ z))
-
 no-table-requires : tie.Need-no_table-requires
 no-table-requires c κs = search rules
 
@@ -41,7 +34,7 @@ returns-2 : tie.Need-returns
 returns-2 c =
     let p = c.before.before.before.before.parse-c in
     let r = c.of_circuit.ensures in
-    let e = circuit-text c.before.before.before.before.before.before.args.text.now (sym c.before.before.before.is_table.ensures ∙ c.before.before.if-is_table.false) in
+    let e = circuit-text c.before.before.before.before.before.before.args.text.now (search (rules, c.is_table.ensures)) in
     (r.0 ∙ ap of_circuit p.ensures.0 ∙ sym e, r.1, λ z. r.3 ∙ p.ensures.2 (sym r.2 ∙ z))
 
 pub describe_spec : {M : Type 1} → statement M
@@ -52,7 +45,10 @@ describe_spec =
     is-table-requires
     parse-requires-2
     of-table-requires
-    returns
+    (λ c.
+    let r = c.of_table.ensures in
+    let e = table-text c.args.text.now (search (rules, c.is_table.ensures)) in
+    (r.0 ∙ ap of_table c.parse.ensures.0 ∙ sym e, r.1, λ z. r.3 ∙ c.parse.ensures.2 (sym r.2 ∙ z)))
     no-table-requires
     of-circuit-requires
     returns-2)

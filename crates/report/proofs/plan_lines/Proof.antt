@@ -15,35 +15,35 @@ eight s = inputs-few s.args.d s.requires.0.0
 few : (s : tie.Start) → due s.args.d.inputs (eight s) ≤ 256
 few s = due-few s.args.d.inputs (eight s)
 
-shl-due : tie.Need-overflow-shl-due
+shl-due : tie.Need-overflow_shl-due
 shl-due c = omega (arith, eight c.before.before.before)
 
-array-borrow-prefix-sound : tie.Need-array-borrow-prefix-sound
+array-borrow-prefix-sound : tie.Need-slice_bounds-sound-end
 array-borrow-prefix-sound c = few c.before.before.before
 
-slice-aggregate-plan-lines-by : tie.Need-slice-aggregate-plan-lines-by
+slice-aggregate-plan-lines-by : tie.Need-slice_bounds-plan_lines_by-end
 slice-aggregate-plan-lines-by c = sym (length-take-le _ _ (few c.before.before.before.before))
 
-array-borrow-prefix-faulted : tie.Need-array-borrow-prefix-faulted
+array-borrow-prefix-faulted : tie.Need-slice_bounds-faulted-end
 array-borrow-prefix-faulted c = few c.before.before.before.before
 
-slice-aggregate-plan-lines-by-2 : tie.Need-slice-aggregate-plan-lines-by-2
+slice-aggregate-plan-lines-by-2 : tie.Need-slice_bounds-plan_lines_by-end-2
 slice-aggregate-plan-lines-by-2 c = sym (length-take-le _ _ (few c.before.before.before.before.before))
 
-plan-lines-by-requires : tie.Need-plan-lines-by-requires
+plan-lines-by-requires : tie.Need-plan_lines_by-requires
 plan-lines-by-requires c κs =
     let s = c.before.before.before.before.before.before in
     let long = length-take-le _ _ (few s) ∙ due-is s.args.d.inputs (eight s) in
     (s.requires.0, (long, long, s.requires.1))
 
-same_length : tie.Need-same-length
+same_length : tie.Need-shape_of-out
 same_length c = search rules
 
 returns : tie.Need-returns
-returns c = c.before.before.before.before.plan-lines-by.ensures
+returns c = c.before.before.before.before.plan_lines_by.ensures
 
-pub plan-lines-spec : {M : Type 1} → statement M
-plan-lines-spec =
+pub plan_lines_spec : {M : Type 1} → statement M
+plan_lines_spec =
     tie.close
     (tie.spec
     shl-due

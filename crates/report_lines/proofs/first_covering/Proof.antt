@@ -10,68 +10,68 @@ use Rattle.report_lines.proofs.ReportLines.{covering-here, covering-later, cover
 use Rattle.report_lines.proofs.first_covering.Statement.{statement}
 use Rattle.report_lines.proofs.first_covering.Tie as tie
 
-abbrev invariant-loop : tie.invariant-loop
+abbrev invariant-loop : tie.invariant-loop-i
 invariant-loop labels sound faulted i₀ i = (i ≤ length labels) × ((x : ℕ) → x < i → differ_at sound faulted labels x ≡ false)
 
-abbrev decreases-loop : tie.decreases-loop
+abbrev decreases-loop : tie.decreases-loop-i
 decreases-loop labels sound faulted i₀ i = length labels - i
 
-loop-holds : tie.Need-loop-init invariant-loop decreases-loop
+loop-holds : tie.Need-loop-i-init invariant-loop decreases-loop
 loop-holds c = (omega arith, λ x h. absurd (omega (arith, h)))
 
-mul-label : tie.Need-overflow-mul-label invariant-loop decreases-loop
+mul-label : tie.Need-offset_bounds-labels-i invariant-loop decreases-loop
 mul-label c = search rules
 
-shared-slice-read-label : tie.Need-shared-slice-read-label invariant-loop decreases-loop
+shared-slice-read-label : tie.Need-bounds-labels-i invariant-loop decreases-loop
 shared-slice-read-label c = search rules
 
-cast-if1 : tie.Need-overflow-cast-if1 invariant-loop decreases-loop
-cast-if1 c = record { fits = omega (arith, c.shared-slice-known.given c.before.before.loop.i) }
+cast-if1 : tie.Need-overflow_cast-label invariant-loop decreases-loop
+cast-if1 c = record { fits = omega (arith, c.shared_slice_known-1.given c.before.before.loop-i.i) }
 
-mul-if1 : tie.Need-overflow-mul-if1 invariant-loop decreases-loop
-mul-if1 c = record { fits = omega (arith, c.shared-slice-known.given c.before.before.loop.i) }
+mul-if1 : tie.Need-offset_bounds-sound-label invariant-loop decreases-loop
+mul-if1 c = record { fits = omega (arith, c.shared_slice_known-1.given c.before.before.loop-i.i) }
 
-shared-slice-copy-out-if1 : tie.Need-shared-slice-copy-out-if1 invariant-loop decreases-loop
-shared-slice-copy-out-if1 c = c.before.before.before.requires.0 c.before.before.loop.i c.before.loop-test.true
+shared-slice-copy-out-if1 : tie.Need-bounds-sound-label invariant-loop decreases-loop
+shared-slice-copy-out-if1 c = c.before.before.before.requires.0 c.before.before.loop-i.i c.before.loop-i-test.true
 
-cast-if1-2 : tie.Need-overflow-cast-if1-2 invariant-loop decreases-loop
-cast-if1-2 c = record { fits = omega (arith, c.before.shared-slice-known.given c.before.before.before.loop.i) }
+cast-if1-2 : tie.Need-overflow_cast-label-in-loop-i invariant-loop decreases-loop
+cast-if1-2 c = record { fits = omega (arith, c.before.shared_slice_known-1.given c.before.before.before.loop-i.i) }
 
-mul-if1-2 : tie.Need-overflow-mul-if1-2 invariant-loop decreases-loop
-mul-if1-2 c = record { fits = omega (arith, c.before.shared-slice-known.given c.before.before.before.loop.i) }
+mul-if1-2 : tie.Need-offset_bounds-faulted-label invariant-loop decreases-loop
+mul-if1-2 c = record { fits = omega (arith, c.before.shared_slice_known-1.given c.before.before.before.loop-i.i) }
 
-shared-slice-copy-out-if1-2 : tie.Need-shared-slice-copy-out-if1-2 invariant-loop decreases-loop
+shared-slice-copy-out-if1-2 : tie.Need-bounds-faulted-label invariant-loop decreases-loop
 shared-slice-copy-out-if1-2 c =
     let b = c.before.before.before.before in
-    let h = b.requires.0 c.before.before.before.loop.i c.before.before.loop-test.true in
+    let h = b.requires.0 c.before.before.before.loop-i.i c.before.before.loop-i-test.true in
     omega (arith, h, b.requires.1)
 
-returns : tie.Need-returns invariant-loop decreases-loop
+returns : tie.Need-returns-then-sound-label invariant-loop decreases-loop
 returns c =
     let a = c.before.before.before.before.before.before.args in
-    let l = c.before.before.before.before.before.loop in
-    covering-here a.sound.now a.faulted.now a.labels.now l.i l.invariant.1 c.before.before.before.before.loop-test.true c.if1.true
+    let l = c.before.before.before.before.before.loop-i in
+    covering-here a.sound.now a.faulted.now a.labels.now l.i l.invariant.1 c.before.before.before.before.loop-i-test.true c.if-sound-label.true
 
-add-i : tie.Need-overflow-add-i invariant-loop decreases-loop
+add-i : tie.Need-overflow_add-i invariant-loop decreases-loop
 add-i c = search rules
 
-loop-less : tie.Need-loop-smaller invariant-loop decreases-loop
+loop-less : tie.Need-loop-i-smaller invariant-loop decreases-loop
 loop-less c = search rules
 
-loop-again : tie.Need-loop-preserved invariant-loop decreases-loop
+loop-again : tie.Need-loop-i-preserved invariant-loop decreases-loop
 loop-again c =
     let a = c.before.before.before.before.before.before.args in
-    let l = c.before.before.before.before.before.loop in
-    (omega (arith, c.before.before.before.before.loop-test.true), covering-later a.sound.now a.faulted.now a.labels.now l.i l.invariant.1 (record { sfits = c.before.before.if12.given }) (record { sfits = c.before.if13.given }) c.if1.false)
+    let l = c.before.before.before.before.before.loop-i in
+    (omega (arith, c.before.before.before.before.loop-i-test.true), covering-later a.sound.now a.faulted.now a.labels.now l.i l.invariant.1 (record { sfits = c.before.before.t12-1.given }) (record { sfits = c.before.t16-1.given }) c.if-sound-label.false)
 
-returns-2 : tie.Need-returns-2 invariant-loop decreases-loop
+returns-2 : tie.Need-returns invariant-loop decreases-loop
 returns-2 c =
     let a = c.before.before.args in
-    let l = c.before.loop in
-    covering-none a.sound.now a.faulted.now a.labels.now l.i l.invariant.1 c.loop-test.false
+    let l = c.before.loop-i in
+    covering-none a.sound.now a.faulted.now a.labels.now l.i l.invariant.1 c.loop-i-test.false
 
-pub first-covering-spec : {M : Type 1} → statement M
-first-covering-spec =
+pub first_covering_spec : {M : Type 1} → statement M
+first_covering_spec =
     tie.close
     (tie.spec
     invariant-loop

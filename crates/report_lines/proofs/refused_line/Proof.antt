@@ -6,19 +6,16 @@ use Rattle.report_lines.proofs.ReportLines.{refused-length, refused-read, read-r
 use Rattle.report_lines.proofs.refused_line.Statement.{statement}
 use Rattle.report_lines.proofs.refused_line.Tie as tie
 
-cast-t6 : tie.Need-overflow-cast-t6
+cast-t6 : tie.Need-overflow_cast-numbers
 cast-t6 c = search rules
 
-cast-t7 : tie.Need-overflow-cast-t7
+cast-t7 : tie.Need-overflow_cast-numbers-2
 cast-t7 c = search rules
 
-slice-aggregate-put-line : tie.Need-slice-aggregate-put-line
-slice-aggregate-put-line c = search rules
-
-slice-aggregate-put-line-2 : tie.Need-slice-aggregate-put-line-2
+slice-aggregate-put-line-2 : tie.Need-slice_bounds-put_line-end-2
 slice-aggregate-put-line-2 c = search rules
 
-put-line-requires : tie.Need-put-line-requires
+put-line-requires : tie.Need-put_line-requires
 put-line-requires c κs =
     let b = c.before.before.before.before in
     let a = b.args in
@@ -26,23 +23,22 @@ put-line-requires c κs =
     let h = refused-length a.number a.place b.requires.1 b.requires.2 in
     read-room 0 _ (refused_line a.number a.place) a.out.now e (omega (arith, h, b.requires.0))
 
-same_length : tie.Need-same-length
+same_length : tie.Need-shape_of-out
 same_length c = search rules
 
 returns : tie.Need-returns
 returns c =
     let b = c.before.before.before.before.before.before.before in
     let a = b.args in
-    let r = read-written 0 _ (refused_line a.number a.place) a.out.now (refused-read a.number a.place b.requires.1 b.requires.2) c.before.before.put-line.ensures in
+    let r = read-written 0 _ (refused_line a.number a.place) a.out.now (refused-read a.number a.place b.requires.1 b.requires.2) c.before.before.put_line.ensures in
     (omega (arith, r.0), r.1)
 
-pub refused-line-spec : {M : Type 1} → statement M
-refused-line-spec =
+pub refused_line_spec : {M : Type 1} → statement M
+refused_line_spec =
     tie.close
     (tie.spec
     cast-t6
     cast-t7
-    slice-aggregate-put-line
     slice-aggregate-put-line-2
     put-line-requires
     same_length

@@ -4,20 +4,20 @@ use Rattle.report.proofs.ReportLaws.{report-front}
 use Rattle.signature.proofs.written.Statement.{statement}
 use Rattle.signature.proofs.written.Tie as tie
 
-report-requires : tie.Need-report-requires
+report-requires : tie.Need-report-r-requires
 report-requires c κs = search rules
 
-same_length : tie.Need-same-length
+same_length : tie.Need-shape_of-out
 same_length c = search rules
 
-same-length-2 : tie.Need-same-length-2
+same-length-2 : tie.Need-shape_of-work
 same-length-2 c = search rules
 
 returns : tie.Need-returns
 returns c =
     let s = c.before.before.before.before.before.before.before.before.before.before in
-    let r = c.before.before.before.before.report in
-    report-front r.result s.args.text.now s.args.out.now r.new.1.0 _ s.requires.0 s.requires.1 r.ensures.0 r.ensures.1.0
+    let r = c.before.before.before.before.report-r in
+    report-front r.result s.args.text.now s.args.out.now r.new.out _ s.requires.0 s.requires.1 r.ensures.0 r.ensures.1.0
 
-pub written-spec : {M : Type 1} → statement M
-written-spec = tie.close (tie.spec report-requires same_length same-length-2 returns)
+pub written_spec : {M : Type 1} → statement M
+written_spec = tie.close (tie.spec report-requires same_length same-length-2 returns)
