@@ -30,7 +30,7 @@ returns-3 c = search rules
 returns-4 : tie.Need-returns-in-Refused
 unfolding of_bits
 returns-4 c =
-    subst (GivesReading _) (sym c.before.a-in-Refused.given.1) (record { number = refl; kind = refl; fixed = refl; place = refl; value = refl })
+    subst (GivesReading _) (sym c.in-Refused.is) (record { number = refl; kind = refl; fixed = refl; place = refl; value = refl })
 
 pub to_measured_spec : {M : Type 1} → statement M
 to_measured_spec =

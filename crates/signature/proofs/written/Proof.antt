@@ -1,6 +1,6 @@
 -- The report stands at the front of what was lent.
 use borrow.Author.Rules.{rules}
-use Rattle.report-r.proofs.ReportLaws.{report-front}
+use Rattle.report.proofs.ReportLaws.{report-front}
 use Rattle.signature.proofs.written.Statement.{statement}
 use Rattle.signature.proofs.written.Tie as tie
 
