@@ -20,12 +20,41 @@ fn written(text: &[u8], out: &mut [u8], work: &mut [u32]) -> usize
     r.bytes
 }
 
-// Says on standard error why a stream failed. Where that fails too, nothing is left to say it on.
-fn tell(rt: &HostRuntime, stream: &str, error: io::Error) {
-    match eprintln!(rt; "signature: {stream}: {error}") {
+// Where what the system says of an error ends: std adds the error's number, which a reader of the message has no use for, and zeros follow.
+fn words_end(said: &[u8]) -> usize
+    ensures { IsPrefixLen result said.now }
+{
+    for i in 0..said.len() {
+        if said[i] == 0 || said[i..].starts_with(b" (os error ") {
+            return i;
+        }
+    }
+    said.len()
+}
+
+// A part of a line to standard error. Where that fails, nothing is left to say it on.
+fn put(rt: &HostRuntime, part: &[u8]) {
+    match rt.stderr().write_all(part) {
         Ok(()) => (),
         Err(_) => (),
     }
+}
+
+// Says on standard error why a stream failed.
+fn tell(rt: &HostRuntime, stream: &str, error: io::Error) {
+    let mut said = [0u8; 512];
+    let mut rest = &mut said[..];
+    // What has no room is left out.
+    match write!(rest, "{error}") {
+        Ok(()) => (),
+        Err(_) => (),
+    }
+    let end = words_end(&said);
+    put(rt, b"signature: ");
+    put(rt, stream.as_bytes());
+    put(rt, b": ");
+    put(rt, &said[..end]);
+    put(rt, b"\n");
 }
 
 // Prints the report on a text, or says that it could not. It asks for that report, so that nothing else is printed.

@@ -94,7 +94,7 @@ fn table() -> Vec<Case> {
             .and_then(|bits| bits.strip_suffix('"'));
         Case::new(word_of(kind), bits.expect("bits"), value)
     };
-    let rows = between(&text, "gateTable =", "[]");
+    let rows = between(&text, "gate_table =", "[]");
     rows.into_iter().map(row).collect()
 }
 
