@@ -1,5 +1,5 @@
 /*
- * The Walsh signature planner, for C99 and C++. Link target/staticlib/libcapi.a, which `bash tools/build` writes for Linux on x86-64; it
+ * The Walsh signature planner, for C99 and C++. Link target/staticlib/libcapi.a, which `bash tools/build capi` writes for Linux on x86-64; it
  * needs nothing but memcpy and memset of the C library. docs/FORMAT.md says what the text of a circuit or of a table is and what each refusal means;
  * samples/plan.c is a short program.
  *

@@ -4,7 +4,7 @@
  * by its exit status: 0 there is a plan, 1 the text is refused, 2 the text could not be read or the report not written, or more than one file is
  * named.
  *
- *     bash tools/build
+ *     bash tools/build capi
  *     cc -Iinclude samples/plan.c target/staticlib/libcapi.a -o target/plan
  *     target/plan samples/full-adder.txt
  */

@@ -1,5 +1,5 @@
 // The C functions: numbers and slices in (a slice as a pointer and a length), a struct of `replies` out. Each calls one function of the library and
-// passes on what that answers and what it leaves in the lent buffers. `bash tools/build` writes them to a static library for C and Rust.
+// passes on what that answers and what it leaves in the lent buffers. `bash tools/build capi` writes them to a static library for C and Rust.
 #![tactic(auto)]
 
 ghost use Rattle.std.specs.Prelude.{◌≡◌, length};
