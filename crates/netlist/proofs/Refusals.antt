@@ -161,7 +161,7 @@ module _ (text : List ℕ) (few : length text ≤ text_bytes) where
       stage (nth_gate_refusal h.inputs) gate_of 1 h.gates 2 (omega arith) (lit≡) (λ j l. gate-due h j l) (after line_end text) refl (λ k b. ap (at text) (none k b) ∙ first)
       (λ gates r. on_read (outputs_in h r) (λ outputs r. on_read (faults_in h r) (end_of h gates outputs)))
       (λ gates r e p.
-      stage (nth_output_refusal (h.inputs + h.gates)) output_of (1 + h.gates) h.outputs (h.gates + 2) (omega arith) (omega arith) (λ j l. output-due h j l) r e p
+      stage (nth_output_refusal (h.inputs + h.gates)) output_of (1 + h.gates) h.outputs _ (omega arith) (omega arith) (λ j l. output-due h j l) r e p
       (λ outputs r. on_read (faults_in h r) (end_of h gates outputs))
       (λ outputs r e p.
       stage (nth_fault_refusal h.inputs (h.inputs + h.gates)) fault_line_of (1 + h.gates + h.outputs) h.faults (h.gates + h.outputs + 2) (omega arith) (omega arith) (λ j l k. fault-due h j l) r e p

@@ -4,17 +4,17 @@ use Rattle.capi.proofs.Passing.{passed_on}
 use Rattle.capi.proofs.walsh_circuit.Statement.{statement}
 use Rattle.capi.proofs.walsh_circuit.Tie as tie
 
-circuit-spectrum-requires : tie.Need-circuit-spectrum-requires
+circuit-spectrum-requires : tie.Need-circuit_spectrum-requires
 circuit-spectrum-requires c κs = search rules
 
-to-reply-requires : tie.Need-to-reply-requires
+to-reply-requires : tie.Need-to_reply-requires
 to-reply-requires c κs = search rules
 
-same_length : tie.Need-same-length
+same_length : tie.Need-shape_of-out
 same_length c = search rules
 
 returns : tie.Need-returns
-returns c = let d = c.before.before.circuit-spectrum in passed_on _ _ _ _ _ _ c.to-reply.ensures d.ensures.0 d.ensures.1
+returns c = let d = c.before.before.circuit_spectrum in passed_on _ _ _ _ _ _ c.to_reply.ensures d.ensures.0 d.ensures.1
 
-pub walsh-circuit-spec : {M : Type 1} → statement M
-walsh-circuit-spec = tie.close (tie.spec circuit-spectrum-requires to-reply-requires same_length returns)
+pub walsh_circuit_spec : {M : Type 1} → statement M
+walsh_circuit_spec = tie.close (tie.spec circuit-spectrum-requires to-reply-requires same_length returns)

@@ -8,11 +8,11 @@ use Rattle.capi.proofs.walsh_coefficient.Tie as tie
 coefficient-requires : tie.Need-coefficient-requires
 coefficient-requires c κs = search rules
 
-to-sum-requires : tie.Need-to-sum-requires
+to-sum-requires : tie.Need-to_sum-requires
 to-sum-requires c κs = search rules
 
 returns : tie.Need-returns
-returns c = subst (GivesFound _) c.before.coefficient.ensures c.to-sum.ensures
+returns c = subst (GivesFound _) c.before.coefficient.ensures c.to_sum.ensures
 
-pub walsh-coefficient-spec : {M : Type 1} → statement M
-walsh-coefficient-spec = tie.close (tie.spec coefficient-requires to-sum-requires returns)
+pub walsh_coefficient_spec : {M : Type 1} → statement M
+walsh_coefficient_spec = tie.close (tie.spec coefficient-requires to-sum-requires returns)

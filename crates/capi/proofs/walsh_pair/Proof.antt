@@ -8,11 +8,11 @@ use Rattle.capi.proofs.walsh_pair.Tie as tie
 compare-requires : tie.Need-compare-requires
 compare-requires c κs = search rules
 
-to-comparison-requires : tie.Need-to-comparison-requires
+to-comparison-requires : tie.Need-to_comparison-requires
 to-comparison-requires c κs = search rules
 
 returns : tie.Need-returns
-returns c = subst (GivesPair _) c.before.compare.ensures.0 c.to-comparison.ensures
+returns c = subst (GivesPair _) c.before.compare.ensures.0 c.to_comparison.ensures
 
-pub walsh-pair-spec : {M : Type 1} → statement M
-walsh-pair-spec = tie.close (tie.spec compare-requires to-comparison-requires returns)
+pub walsh_pair_spec : {M : Type 1} → statement M
+walsh_pair_spec = tie.close (tie.spec compare-requires to-comparison-requires returns)

@@ -8,14 +8,14 @@ use Rattle.capi.proofs.walsh_plan.Tie as tie
 plan-requires : tie.Need-plan-requires
 plan-requires c κs = search rules
 
-to-signature-requires : tie.Need-to-signature-requires
+to-signature-requires : tie.Need-to_signature-requires
 to-signature-requires c κs = search rules
 
-same_length : tie.Need-same-length
+same_length : tie.Need-shape_of-work
 same_length c = search rules
 
 returns : tie.Need-returns
-returns c = let p = c.before.before.before.plan in (subst (GivesPlan _) p.ensures.0 c.to-signature.ensures, p.ensures.1)
+returns c = let p = c.before.before.before.plan in (subst (GivesPlan _) p.ensures.0 c.to_signature.ensures, p.ensures.1)
 
-pub walsh-plan-spec : {M : Type 1} → statement M
-walsh-plan-spec = tie.close (tie.spec plan-requires to-signature-requires same_length returns)
+pub walsh_plan_spec : {M : Type 1} → statement M
+walsh_plan_spec = tie.close (tie.spec plan-requires to-signature-requires same_length returns)

@@ -8,11 +8,11 @@ use Rattle.capi.proofs.walsh_reading.Tie as tie
 read-requires : tie.Need-read-requires
 read-requires c κs = search rules
 
-to-measured-requires : tie.Need-to-measured-requires
+to-measured-requires : tie.Need-to_measured-requires
 to-measured-requires c κs = search rules
 
 returns : tie.Need-returns
-returns c = subst (GivesReading _) c.before.read.ensures.0 c.to-measured.ensures
+returns c = subst (GivesReading _) c.before.read.ensures.0 c.to_measured.ensures
 
-pub walsh-reading-spec : {M : Type 1} → statement M
-walsh-reading-spec = tie.close (tie.spec read-requires to-measured-requires returns)
+pub walsh_reading_spec : {M : Type 1} → statement M
+walsh_reading_spec = tie.close (tie.spec read-requires to-measured-requires returns)

@@ -7,14 +7,14 @@ use Rattle.capi.proofs.walsh_spectrum.Tie as tie
 spectrum-requires : tie.Need-spectrum-requires
 spectrum-requires c κs = search rules
 
-to-reply-requires : tie.Need-to-reply-requires
+to-reply-requires : tie.Need-to_reply-requires
 to-reply-requires c κs = search rules
 
-same_length : tie.Need-same-length
+same_length : tie.Need-shape_of-out
 same_length c = search rules
 
 returns : tie.Need-returns
-returns c = let d = c.before.before.spectrum in passed_on _ _ _ _ _ _ c.to-reply.ensures d.ensures.0 d.ensures.1
+returns c = let d = c.before.before.spectrum in passed_on _ _ _ _ _ _ c.to_reply.ensures d.ensures.0 d.ensures.1
 
-pub walsh-spectrum-spec : {M : Type 1} → statement M
-walsh-spectrum-spec = tie.close (tie.spec spectrum-requires to-reply-requires same_length returns)
+pub walsh_spectrum_spec : {M : Type 1} → statement M
+walsh_spectrum_spec = tie.close (tie.spec spectrum-requires to-reply-requires same_length returns)

@@ -27,13 +27,10 @@ returns-2 c = sym (number-long c.args.s.now c.if-n-gt4.true)
 shared-slice-read-if4 : tie.Need-bounds-s-0 invariant-loop decreases-loop
 shared-slice-read-if4 c = search rules
 
-returns-3 : tie.Need-returns-then-s-eq48 invariant-loop decreases-loop
-returns-3 c = sym (number-zero c.args.s.now c.if-n-gt1.true c.if-s-eq48.true)
-
 loop-holds : tie.Need-loop-i-init invariant-loop decreases-loop
 loop-holds c =
     let s = c.args.s.now in
-    (search rules, lit< tt, number_digits s (omega arith) (omega arith) (⊎_elim (λ w. inr w.if-s-eq48.false) (λ w. inl (omega arith)) c.if-n-gt1.branch-raw))
+    (search rules, lit< tt, number_digits s (omega arith) (omega arith) (⊎_elim (λ w. inr (λ e. absurd (omega (arith, e)))) (λ w. inl (omega arith)) c.if-n-gt1.branch-raw))
 
 shared-slice-read-x : tie.Need-bounds-s-i invariant-loop decreases-loop
 shared-slice-read-x c = search rules
@@ -80,7 +77,7 @@ decimal_spec =
     returns
     returns-2
     shared-slice-read-if4
-    returns-3
+    (λ c. sym (number-zero c.args.s.now (omega arith) (omega arith)))
     loop-holds
     shared-slice-read-x
     returns-4

@@ -14,12 +14,6 @@ use Rattle.netlist.proofs.parsing.parse.Tie as tie
 refused-requires : tie.Need-refused-requires
 refused-requires c κs = search rules
 
-returns : tie.Need-returns-then-text-gt-TEXT_BYTES
-returns c =
-    let text = c.args.text.now in
-    let r = c.refused in
-    (meant r.result r.ensures.0 r.ensures.1 (λ e. absurd (omega arith)) ∙ sym (too_long text c.if-text-gt-TEXT_BYTES.true), r.ensures.2, λ e. absurd (omega (arith, e, r.ensures.0)))
-
 find-requires : tie.Need-find-end-requires
 find-requires c κs = search rules
 
@@ -31,7 +25,7 @@ returns-2 c =
     let text = c.args.text.now in
     let r = c.refused-then-text-end in
     let f = c.find-end in
-    (meant r.result r.ensures.0 r.ensures.1 (λ e. absurd (omega arith)) ∙ sym (no-head text c.if-text-gt-TEXT_BYTES.false f.ensures c.if-text-end.true), r.ensures.2, λ e. absurd (omega (arith, e, r.ensures.0)))
+    (meant r.result r.ensures.0 r.ensures.1 (λ e. absurd (omega arith)) ∙ sym (no-head text (omega arith) f.ensures c.if-text-end.true), r.ensures.2, λ e. absurd (omega (arith, e, r.ensures.0)))
 
 sub-head-line : tie.Need-slice_bounds-head_line-count
 sub-head-line c = search rules
@@ -56,7 +50,7 @@ returns-3 c =
     let h = c.head_line-said in
     let stopped = c.if-number-ne0.true in (
       meant r.result r.ensures.0 r.ensures.1 stopped
-          ∙ sym (head-stop text c.if-text-gt-TEXT_BYTES.false f.ensures c.if-text-end.false h.ensures.0 stopped),
+          ∙ sym (head-stop text (omega arith) f.ensures c.if-text-end.false h.ensures.0 stopped),
       r.ensures.2,
       λ e. absurd (stopped (sym r.ensures.0 ∙ e)),
     )
@@ -77,7 +71,7 @@ returns-4 c =
     let h = c.head_line-said in (
       c.body.ensures.0
           ∙ ap (λ (x : Head). body_of x (drop (f.result + 1) text)) h.ensures.1
-          ∙ sym (head_passed text c.if-text-gt-TEXT_BYTES.false f.ensures c.if-text-end.false h.ensures.0 c.if-number-ne0.false),
+          ∙ sym (head_passed text (omega arith) f.ensures c.if-text-end.false h.ensures.0 c.if-number-ne0.false),
       c.body.ensures.1,
       c.body.ensures.2,
     )
@@ -87,7 +81,7 @@ parse_spec =
     tie.close
     (tie.spec
     refused-requires
-    returns
+    (λ c. (meant c.refused.result c.refused.ensures.0 c.refused.ensures.1 (λ e. absurd (omega arith)) ∙ sym (too_long c.args.text.now (omega arith)), c.refused.ensures.2, λ e. absurd (omega (arith, e, c.refused.ensures.0))))
     find-requires
     refused-requires-2
     returns-2
