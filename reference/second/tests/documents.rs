@@ -17,9 +17,8 @@ const COMMANDS: [&str; 4] = ["rt", "cargo", "bash", "dos2unix"];
 
 /// What pages name that is not of this repository: C functions that the program
 /// `signature` comes to by libraries, and words that are no kinds of gates.
-const OTHERS: [&str; 6] = [
+const OTHERS: [&str; 5] = [
     "write",
-    "libc::write",
     "rattle_errno",
     "__xpg_strerror_r",
     "buf",
@@ -345,6 +344,10 @@ impl Known {
         }
         if is_name(quote) {
             return Some(self.is_named(quote));
+        }
+        // A field of a value, whose name is one letter.
+        if let Some((_, field)) = quote.split_once('.').filter(|(value, _)| value.len() == 1) {
+            return Some(field.split('.').all(|name| self.names.contains(name)));
         }
         let mut parts = quote.split(['/', '.']);
         let is_path = !quote.contains("..") && parts.all(|part| part.is_empty() || is_name(part));
