@@ -1,7 +1,7 @@
 // Numbers of a fixed width, as the cases give sizes, arguments and lists.
 ghost use Rattle.std.specs.Prelude.{◌+◌, ◌≤◌, length};
 
-#[derive(Drop)]
+#[derive(Clone, Copy)]
 pub enum Integer {
     Value(i32),
     Bad,

@@ -36,7 +36,7 @@ pub struct Device {
 }
 
 // Number 0 where the text is accepted.
-#[derive(Drop)]
+#[derive(Clone, Copy)]
 pub struct Described {
     pub number: u32,
     pub place: usize,

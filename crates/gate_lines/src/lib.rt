@@ -21,7 +21,7 @@ pub struct Gate {
     pub d: u16,
 }
 
-#[derive(Drop)]
+#[derive(Clone, Copy)]
 pub struct GateLine {
     pub number: u32,
     pub gate: Gate,

@@ -20,7 +20,7 @@ pub struct Circuit {
 }
 
 // Number 0 where the text is accepted. The struct stands for an enum, which cannot hold arrays.
-#[derive(Drop)]
+#[derive(Clone, Copy)]
 pub struct Parsed {
     pub number: u32,
     pub place: usize,

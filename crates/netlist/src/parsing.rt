@@ -12,7 +12,7 @@ use kinds::Kind;
 use statements::{Bridge, Fault, Head, Output, Pair};
 
 // What the gate lines say; number 0 where none is refused, and then `at` is where the next line begins.
-#[derive(Drop)]
+#[derive(Clone, Copy)]
 struct GateLines {
     number: u32,
     place: usize,
@@ -20,7 +20,7 @@ struct GateLines {
     gates: [Gate; 48],
 }
 
-#[derive(Drop)]
+#[derive(Clone, Copy)]
 struct OutputLines {
     number: u32,
     place: usize,

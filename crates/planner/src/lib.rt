@@ -12,7 +12,7 @@ pub use plan_call::plan_device;
 pub const WORKING_NUMBERS: usize = 4608;
 
 // Number 0 with a plan of `size` labels; label places past the size hold 0. With a refusal size and labels are 0.
-#[derive(Drop)]
+#[derive(Clone, Copy)]
 pub struct Planned {
     pub number: u32,
     pub place: usize,

@@ -6,7 +6,7 @@ ghost use Rattle.integer.specs.Tab.{Within};
 ghost use Rattle.reading.specs.Readings.{whole_sum, count_of, quotient, mean_of, case_of, pair_of};
 
 // A reading by its case; a constrained one has the number of fixed inputs.
-#[derive(Drop)]
+#[derive(Clone, Copy)]
 pub enum Reading {
     Syndrome(f64),
     Weighted(f64),
@@ -15,7 +15,7 @@ pub enum Reading {
 }
 
 // The readings of a sound circuit and a faulty one, and sound minus faulty.
-#[derive(Drop)]
+#[derive(Clone, Copy)]
 pub struct ReadingPair {
     pub sound: f64,
     pub faulty: f64,

@@ -15,7 +15,7 @@ use walsh::Found;
 
 // Number 0 where the call is done.
 #[repr(C)]
-#[derive(Drop)]
+#[derive(Clone, Copy)]
 pub struct Reply {
     pub number: u32,
     pub place: usize,
@@ -23,7 +23,7 @@ pub struct Reply {
 
 // The coefficient is 0 with a refusal.
 #[repr(C)]
-#[derive(Drop)]
+#[derive(Clone, Copy)]
 pub struct Sum {
     pub number: u32,
     pub value: i32,
@@ -32,7 +32,7 @@ pub struct Sum {
 
 // Number 0 with a plan; label places past the size hold 0, and all are 0 with a refusal.
 #[repr(C)]
-#[derive(Drop)]
+#[derive(Clone, Copy)]
 pub struct Signature {
     pub number: u32,
     pub place: usize,
@@ -42,7 +42,7 @@ pub struct Signature {
 
 // Number 0 and how many bytes were written, or number 8.
 #[repr(C)]
-#[derive(Drop)]
+#[derive(Clone, Copy)]
 pub struct Written {
     pub number: u32,
     pub bytes: usize,
@@ -51,7 +51,7 @@ pub struct Written {
 // Number 0 with a reading: kind 1 a plain syndrome, 2 a weighted sum, 3 a constrained value with its number of fixed inputs, which is 0 in the
 // other kinds. With a refusal all but number and place is 0.
 #[repr(C)]
-#[derive(Drop)]
+#[derive(Clone, Copy)]
 pub struct Measured {
     pub number: u32,
     pub kind: u32,
@@ -62,7 +62,7 @@ pub struct Measured {
 
 // Number 0 with the readings, which are 0 with a refusal.
 #[repr(C)]
-#[derive(Drop)]
+#[derive(Clone, Copy)]
 pub struct Comparison {
     pub number: u32,
     pub place: usize,
@@ -73,7 +73,7 @@ pub struct Comparison {
 
 // A part of a lent text.
 #[repr(C)]
-#[derive(Drop)]
+#[derive(Clone, Copy)]
 pub struct Part {
     pub start: usize,
     pub length: usize,

@@ -17,7 +17,7 @@ use report_lines::{fault_lines, label_lines, refused_line};
 pub const REPORT_BYTES: usize = 1024;
 
 // Number 0 and how many bytes the report has, or number 8.
-#[derive(Drop)]
+#[derive(Clone, Copy)]
 pub struct Reported {
     pub number: u32,
     pub bytes: usize,

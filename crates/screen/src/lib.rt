@@ -6,7 +6,7 @@ ghost use Rattle.screen.specs.Answers.{inputs_of, first_outside, screen_of};
 ghost use Rattle.screen.specs.Steps.{any_outside};
 
 // What a call on a list answers.
-#[derive(Drop)]
+#[derive(Clone, Copy)]
 pub enum Answer {
     Done,
     Refused { number: u32, place: usize },

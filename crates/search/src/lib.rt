@@ -9,7 +9,7 @@ ghost use Rattle.search.specs.Sets.{plan_of};
 ghost use Rattle.search.specs.Steps.{Unions, clears, sought, choice_of, set_at};
 
 // Up to four labels, in the order; 0 where there are fewer.
-#[derive(Drop)]
+#[derive(Clone, Copy)]
 pub struct Labels {
     pub first: u32,
     pub second: u32,
@@ -17,14 +17,14 @@ pub struct Labels {
     pub fourth: u32,
 }
 
-#[derive(Drop)]
+#[derive(Clone, Copy)]
 pub enum Choice {
     Nothing,
     Chosen(Labels),
 }
 
 // How many labels, and which; size 0 where there is no set.
-#[derive(Drop)]
+#[derive(Clone, Copy)]
 pub struct LabelSet {
     pub size: usize,
     pub labels: [u32; 4],

@@ -9,7 +9,7 @@ ghost use Rattle.sections.specs.FaultLines.{nth_fault_refusal};
 use statements::{Bridge, Fault, Pair};
 
 // What the fault lines say; number 0 where none is refused, and then `at` is where the next line begins.
-#[derive(Drop)]
+#[derive(Clone, Copy)]
 pub struct FaultLines {
     pub number: u32,
     pub place: usize,

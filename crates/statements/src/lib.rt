@@ -51,19 +51,19 @@ pub struct Head {
     pub cap: usize,
 }
 
-#[derive(Drop)]
+#[derive(Clone, Copy)]
 pub struct HeadLine {
     pub number: u32,
     pub head: Head,
 }
 
-#[derive(Drop)]
+#[derive(Clone, Copy)]
 pub struct OutputLine {
     pub number: u32,
     pub output: Output,
 }
 
-#[derive(Drop)]
+#[derive(Clone, Copy)]
 pub struct FaultLine {
     pub number: u32,
     pub fault: Fault,

@@ -26,7 +26,7 @@ pub struct Table {
 }
 
 // Number 0 where the text is accepted. The struct stands for an enum, which cannot hold arrays.
-#[derive(Drop)]
+#[derive(Clone, Copy)]
 pub struct ParsedTable {
     pub number: u32,
     pub place: usize,

@@ -8,14 +8,14 @@ use crate::{ParsedTable, Table, TableHead};
 use fields::number_unless;
 use statements::{Bridge, Fault, Pair};
 
-#[derive(Drop)]
+#[derive(Clone, Copy)]
 struct TableHeadLine {
     number: u32,
     head: TableHead,
 }
 
 // What a line of marks says; number 0 where it is not refused.
-#[derive(Drop)]
+#[derive(Clone, Copy)]
 struct MarkLine {
     number: u32,
     marks: [u8; 256],

@@ -8,14 +8,14 @@ ghost use Rattle.text.specs.Text.{index_of, field_of, field_start, further, fiel
 pub const TEXT_BYTES: usize = 16384;
 
 // What a field says as a number.
-#[derive(Drop)]
+#[derive(Clone, Copy)]
 pub enum Number {
     Value(u16),
     Bad,
 }
 
 // Where a field stands: `text[start..end]`.
-#[derive(Drop)]
+#[derive(Clone, Copy)]
 pub struct Span {
     pub start: usize,
     pub end: usize,

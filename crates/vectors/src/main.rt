@@ -180,7 +180,7 @@ fn next_holds(rt: &HostRuntime, head: &[u8; 54], space: &mut [u8]) -> bool {
 }
 
 // How many cases came, and how many of them do not hold.
-#[derive(Drop)]
+#[derive(Clone, Copy)]
 struct Tally {
     cases: u64,
     wrong: u64,

@@ -11,7 +11,7 @@ pub use direct::coefficient;
 pub use lists::{rows, spectrum};
 
 // What the call for one coefficient answers.
-#[derive(Drop)]
+#[derive(Clone, Copy)]
 pub enum Found {
     Coefficient(i32),
     Refused { number: u32, place: usize },
