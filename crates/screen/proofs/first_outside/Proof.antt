@@ -12,7 +12,6 @@ use mir.Val.{to_z, of_z}
 use mir.ValLaws.{to_z-of_z}
 use native.Mathlib.Omega.{arith}
 use borrow.Author.Count.{below_more}
-use borrow.Author.Tests.{not-true}
 use Rattle.integer.specs.Tab.{nth}
 use Rattle.screen.specs.Answers.{outside_at}
 use Rattle.screen.proofs.Screens.{outside_low, outside_high, outside-none, outside-back, found-outside, none-outside, any-all}

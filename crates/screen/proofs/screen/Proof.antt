@@ -1,7 +1,6 @@
 -- Each return is the answer by one law of `screen_of`, from what the tests so far have shown.
 use native.Mathlib.Omega.{arith}
 use borrow.Author.Rules.{rules}
-use borrow.Author.Tests.{not-true, not-false}
 use mathlib.Core.Path.{◌≡◌, sym, ap, ◌∙◌}
 use Prim.Native.Nat.{◌<◌}
 use lib.ListN.{length}
