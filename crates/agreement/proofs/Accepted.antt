@@ -27,9 +27,8 @@ use Rattle.devices.specs.Devices.{circuit_problem}
 use Rattle.devices.specs.Problems.{Problem, problem_from, rows_at}
 use Rattle.devices.proofs.ProblemRows.{fault-count, circuit-rows}
 use Rattle.devices.proofs.TextKinds.{circuit-described}
-use Rattle.screen.specs.Answers.{minus, inputs_of, screen_of}
+use Rattle.screen.specs.Answers.{Done, minus, inputs_of, screen_of}
 use Rattle.transform.specs.Spectrum.{spectrum_of}
-use Rattle.screen.specs.declared.Answer.TheVariants.{Done}
 use Rattle.screen.proofs.Screens.{within-screened}
 use Rattle.circuit.specs.CircuitCall.{room_answer, fault_answer, circuit_answer, fault_spectrum, circuit_spectrum}
 

@@ -28,9 +28,8 @@ use Rattle.simulation.proofs.RowBounds.{row_within}
 use Rattle.statements.specs.Items.{no_bridge}
 use Rattle.statements.specs.declared.Fault.{Fault}
 use Rattle.statements.specs.declared.Pair.{Pair}
-use Rattle.screen.specs.Answers.{and_then, inputs_of}
+use Rattle.screen.specs.Answers.{Done, and_then, inputs_of}
 use Rattle.transform.specs.Spectrum.{spectrum_of}
-use Rattle.screen.specs.declared.Answer.TheVariants.{Done}
 use Rattle.screen.proofs.Screens.{inputs-is, then-done}
 use Rattle.transform.proofs.Spectra.{length-spectrum, within-spectrum}
 use Rattle.faults.specs.Faults.{opened_row_number, opened_row, opened_rows, opened_right, kept_inputs, opened_answer, opened_spectrum_of}

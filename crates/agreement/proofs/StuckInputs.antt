@@ -13,6 +13,7 @@ use lib.Dec.{eqb}
 use lib.IntN.{pos}
 use lib.ListN.{length}
 use borrow.Author.Tests.{eqb-true, eqb-false, ne_eqb}
+use Rattle.screen.specs.Answers.{Done}
 use Rattle.integer.specs.Tab.{tab}
 use Rattle.integer.proofs.Tabs.{tab-ext, get_or-tab}
 use Rattle.netlist.specs.Circuits.{Netlist, fault_at}
@@ -27,7 +28,6 @@ use Rattle.simulation.proofs.Showing.{others_keep, sound-keeps, unbridged-shown}
 use Rattle.statements.specs.Items.{no_bridge, sound}
 use Rattle.statements.specs.declared.Fault.{Fault}
 use Rattle.statements.specs.declared.Pair.{Pair}
-use Rattle.screen.specs.declared.Answer.TheVariants.{Done}
 use Rattle.faults.specs.Faults.{Stuck, stuck_of, replaced, replaced_all, stuck_row, stuck_rows, stuck_answer, stuck_spectrum_of}
 use Rattle.faults.proofs.Faulted.{replaced-shows, replaced-keeps}
 use Rattle.faults.proofs.Sticking.{Rises}

@@ -11,8 +11,7 @@ use lib.ListN.{length}
 use Rattle.integer.proofs.Bounds.{within_more}
 use Rattle.sections.specs.FaultLines.{StuckFault}
 use Rattle.statements.specs.declared.Fault.{Fault}
-use Rattle.screen.specs.Answers.{inputs_of}
-use Rattle.screen.specs.declared.Answer.TheVariants.{Done}
+use Rattle.screen.specs.Answers.{Done, inputs_of}
 use Rattle.screen.proofs.Screens.{inputs-is}
 use Rattle.transform.specs.Spectrum.{spectrum_of}
 use Rattle.transform.proofs.Spectra.{length-spectrum}

@@ -7,9 +7,9 @@ use mathlib.Core.List.{List}
 use Prim.Native.Nat.{ℕ, zero, suc, ◌^◌, ◌≤◌}
 use native.Mathlib.Omega.{arith}
 use lib.ListN.{length}
+use Rattle.screen.specs.Answers.{Done}
 use Rattle.sections.specs.FaultLines.{FaultRight}
 use Rattle.statements.specs.Items.{no_bridge}
-use Rattle.screen.specs.declared.Answer.TheVariants.{Done}
 use Rattle.faults.specs.Faults.{stuck_of, stuck_answer, stuck_spectrum_of}
 use Rattle.tables.specs.Tables.{TruthTable, table_fault_at}
 use Rattle.tables.specs.TableParsing.{accepted_table, table_of}

@@ -20,10 +20,8 @@ use borrow.Author.Tests.{ltb-true, eqb-true, not-false}
 use Rattle.integer.specs.Tab.{nth}
 use Rattle.integer.proofs.Bools.{clash}
 use Rattle.integer.proofs.Firsts.{first-none, first-all, first-at, first-before}
-use Rattle.screen.specs.Answers.{answer_number, answer_place, and_then, refuse_if, minus, inputs_of, screen_of}
-use Rattle.screen.specs.declared.Answer.{Answer}
-use Rattle.screen.specs.declared.Answer.TheVariants.{Done, Refused}
-use Rattle.screen.proofs.Screens.{Ready, ready, screen-not-11, first-passed}
+use Rattle.screen.specs.Answers.{Ready, Answer, Done, Refused, answer_number, answer_place, and_then, refuse_if, minus, inputs_of, screen_of}
+use Rattle.screen.proofs.Screens.{ready, screen-not-11, first-passed}
 use Rattle.transform.specs.Spectrum.{spectrum_of}
 use Rattle.transform.proofs.Spectra.{length-spectrum}
 use Rattle.faults.specs.Faults.{bit_of, bridged_rows}

@@ -3,9 +3,7 @@
 use Rattle.std.specs.Prelude.{ℕ, zero, suc, ◌+◌, ◌-◌, ◌%◌, ◌^◌, List, Bool, not, ◌&&◌, ℤ, pos, nat_abs, ◌+ℤ◌, neg_ℤ, eqb, leb, ltb, length}
 use Rattle.integer.specs.First.{first_where}
 use Rattle.integer.specs.Tab.{tab, nth}
-use Rattle.screen.specs.Answers.{and_then, refuse_if, minus, screen_of, inputs_of}
-use Rattle.screen.specs.declared.Answer.{Answer}
-use Rattle.screen.specs.declared.Answer.TheVariants.{Done}
+use Rattle.screen.specs.Answers.{Answer, Done, and_then, refuse_if, minus, screen_of, inputs_of}
 use Rattle.results.specs.Quotients.{quotient_of}
 use Rattle.faults.specs.Faults.{bit_of, replaced}
 

@@ -1,14 +1,25 @@
 // The spectrum under a bridge of two inputs, from coefficients alone. As in `faults` the call has no `requires` and refuses what it cannot take.
 #![tactic(auto)]
 
-ghost use Rattle.std.specs.Prelude.{◌≡◌, ◌≤◌, ◌<◌, length};
+ghost use Rattle.std.specs.Prelude.{◌≡◌, ◌≤◌, ◌<◌, length, MatchOption};
 ghost use Rattle.integer.specs.Tab.{Within, nth};
 ghost use Rattle.results.specs.Results.{leaves, written};
-ghost use Rattle.screen.specs.Answers.{inputs_of};
+ghost use Rattle.screen.specs.Answers.{answer_of, inputs_of};
 ghost use Rattle.bridges.specs.BridgeArguments.{BridgeArguments};
-ghost use Rattle.bridges.specs.Bridges.{pair_sum, bridged_at, bridged_spectrum_of, first_unhalved, bridged_answer};
+ghost use Rattle.bridges.specs.Bridges.{pair_sum, bridged_at, bridged_spectrum_of, first_unhalved, bridge_right, bridged_answer};
 
-use screen::Answer;
+use refusals::Refusal;
+
+// Whether the first input is below the second and both are inputs of a list of n numbers.
+#[tactic(auto, using(crate::proofs::UnhalvedLabels::right_is), unfolding(crate::specs::Bridges::bridge_right))]
+fn bridge_right(n: usize, first: u32, second: u32) -> bool
+    ensures { result ≡ bridge_right (inputs_of n) first second }
+{
+    let Some(inputs) = screen::inputs_of(n) else {
+        return false;
+    };
+    (0 < first) & (first < second) & (second <= inputs)
+}
 
 // The coefficient with only the first input and the one with only the second, added up.
 fn pair_sum(coefficients: &[i32], first: u32, second: u32, label: usize) -> i32
@@ -23,21 +34,19 @@ fn pair_sum(coefficients: &[i32], first: u32, second: u32, label: usize) -> i32
     coefficients[base + i] + coefficients[base + j]
 }
 
-// The index of the first label whose half is not whole, or the length where there is none.
-fn first_unhalved(coefficients: &[i32], first: u32, second: u32) -> usize
+// The first label whose half is not whole.
+fn first_unhalved(coefficients: &[i32], first: u32, second: u32) -> Option<usize>
     requires bridge_arguments { BridgeArguments (inputs_of (length coefficients.now)) first second }
     requires within { Within 2048000 coefficients.now }
-    ensures { result ≡ first_unhalved first second coefficients.now }
+    ensures { MatchOption result (length coefficients.now ≤ first_unhalved first second coefficients.now)
+        (λ label. (label ≡ first_unhalved first second coefficients.now) × (label < length coefficients.now)) }
 {
-    let mut label: usize = 0;
-    while label < coefficients.len() {
-        let sum = pair_sum(coefficients, first, second, label);
-        if sum % 2 != 0 {
-            return label;
+    for label in 0..coefficients.len() {
+        if pair_sum(coefficients, first, second, label) % 2 != 0 {
+            return Some(label);
         }
-        label += 1;
     }
-    label
+    None
 }
 
 // The coefficient under the bridge.
@@ -67,31 +76,28 @@ fn bridge(coefficients: &[i32], first: u32, second: u32, out: &mut [i32])
     requires coefficients_in_bounds { length coefficients.now ≤ length out.old }
     ensures { out.new ≡ written (bridged_spectrum_of first second coefficients.now) out.old }
 {
-    let mut label: usize = 0;
-    while label < coefficients.len() {
-        let z = bridged_at(coefficients, first, second, label);
-        out[label] = z;
-        label += 1;
+    for label in 0..coefficients.len() {
+        out[label] = bridged_at(coefficients, first, second, label);
     }
 }
 
-// The spectrum with the two inputs bridged, written to the front of `out`; or 9, 12, 10, 8, 11.
-pub fn bridged(coefficients: &[i32], first: u32, second: u32, out: &mut [i32]) -> Answer
-    ensures value { result ≡ bridged_answer coefficients.now first second (length out.old) }
-    ensures out_after { out.new ≡ leaves result (bridged_spectrum_of first second coefficients.now) out.old }
+/// The spectrum with the two inputs bridged, written to the front of `out`; or 9, 12, 10, 8, 11.
+#[tactic(auto, using(crate::proofs::UnhalvedLabels::bridged_is), unfolding(crate::specs::Bridges::bridged_answer, crate::specs::Bridges::unhalved_answer))]
+pub fn bridged(
+    coefficients: &[i32],
+    first: u32,
+    second: u32,
+    out: &mut [i32],
+) -> Result<(), Refusal>
+    ensures value { answer_of result ≡ bridged_answer coefficients.now first second (length out.old) }
+    ensures out_after { out.new ≡ leaves (answer_of result) (bridged_spectrum_of first second coefficients.now) out.old }
 {
     let n = coefficients.len();
-    let inputs = screen::inputs_of(n);
-    let right = (0 < first) & ((first < second) & (second <= inputs));
-    match screen::screen(coefficients, -2048000, 2048000, right, out.len(), n) {
-        Answer::Refused { number, place } => Answer::Refused { number, place },
-        Answer::Done => {
-            let place = first_unhalved(coefficients, first, second);
-            if place < n {
-                return Answer::Refused { number: 11, place };
-            }
-            bridge(coefficients, first, second, out);
-            Answer::Done
-        }
+    let right = bridge_right(n, first, second);
+    screen::screen(coefficients, -2048000, 2048000, right, out.len(), n)?;
+    if let Some(index) = first_unhalved(coefficients, first, second) {
+        return Err(Refusal::Indivisible { index });
     }
+    bridge(coefficients, first, second, out);
+    Ok(())
 }

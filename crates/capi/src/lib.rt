@@ -23,7 +23,7 @@ use replies::{Comparison, Measured, Part, Reply, Signature, Sum, Written};
 pub extern "C" fn walsh_coefficient(rows: &[i32], label: u32) -> Sum
     ensures { GivesFound result (found_of rows.now label) }
 {
-    replies::to_sum(walsh::coefficient(rows, label))
+    Sum::from(walsh::coefficient(rows, label))
 }
 
 // Rows to their spectrum.
@@ -32,7 +32,7 @@ pub extern "C" fn walsh_spectrum(rows: &[i32], out: &mut [i32]) -> Reply
     ensures gives { Gives result (spectrum_answer rows.now (length out.old)) }
     ensures out_after { out.new ≡ leaves (spectrum_answer rows.now (length out.old)) (spectrum_of rows.now) out.old }
 {
-    replies::to_reply(walsh::spectrum(rows, out))
+    Reply::from(walsh::spectrum(rows, out))
 }
 
 // A spectrum to its rows.
@@ -41,7 +41,7 @@ pub extern "C" fn walsh_rows(coefficients: &[i32], out: &mut [i32]) -> Reply
     ensures gives { Gives result (rows_answer coefficients.now (length out.old)) }
     ensures out_after { out.new ≡ leaves (rows_answer coefficients.now (length out.old)) (inverse_rows coefficients.now) out.old }
 {
-    replies::to_reply(walsh::rows(coefficients, out))
+    Reply::from(walsh::rows(coefficients, out))
 }
 
 // The spectrum with one to three inputs stuck.
@@ -55,7 +55,7 @@ pub extern "C" fn walsh_stuck(
     ensures gives { Gives result (stuck_answer coefficients.now inputs.now values.now (length out.old)) }
     ensures out_after { out.new ≡ leaves (stuck_answer coefficients.now inputs.now values.now (length out.old)) (stuck_spectrum_of (stuck_of inputs.now values.now) coefficients.now) out.old }
 {
-    replies::to_reply(faults::stuck(coefficients, inputs, values, out))
+    Reply::from(faults::stuck(coefficients, inputs, values, out))
 }
 
 // The spectrum with the last one to three lines opened.
@@ -64,7 +64,7 @@ pub extern "C" fn walsh_opened(coefficients: &[i32], values: &[u32], out: &mut [
     ensures gives { Gives result (opened_answer coefficients.now values.now (length out.old)) }
     ensures out_after { out.new ≡ leaves (opened_answer coefficients.now values.now (length out.old)) (opened_spectrum_of coefficients.now values.now) out.old }
 {
-    replies::to_reply(faults::opened(coefficients, values, out))
+    Reply::from(faults::opened(coefficients, values, out))
 }
 
 // The spectrum with two inputs bridged.
@@ -78,7 +78,7 @@ pub extern "C" fn walsh_bridged(
     ensures gives { Gives result (bridged_answer coefficients.now first second (length out.old)) }
     ensures out_after { out.new ≡ leaves (bridged_answer coefficients.now first second (length out.old)) (bridged_spectrum_of first second coefficients.now) out.old }
 {
-    replies::to_reply(bridges::bridged(coefficients, first, second, out))
+    Reply::from(bridges::bridged(coefficients, first, second, out))
 }
 
 // The spectrum of the text's circuit, sound for fault 0, else under that fault.
@@ -87,7 +87,7 @@ pub extern "C" fn walsh_circuit(text: &[u8], fault: u32, out: &mut [i32]) -> Rep
     ensures gives { Gives result (circuit_answer text.now fault (length out.old)) }
     ensures out_after { out.new ≡ leaves (circuit_answer text.now fault (length out.old)) (circuit_spectrum text.now fault) out.old }
 {
-    replies::to_reply(circuit::circuit_spectrum(text, fault, out))
+    Reply::from(circuit::circuit_spectrum(text, fault, out))
 }
 
 // The plan of the text's circuit.
@@ -96,7 +96,7 @@ pub extern "C" fn walsh_plan(text: &[u8], work: &mut [u32]) -> Signature
     ensures gives_plan { GivesPlan result (plan_answer text.now (length work.old)) }
     ensures work_kept { WorkKept (plan_verdict text.now (length work.old)) work.old work.new }
 {
-    replies::to_signature(planner::plan(text, work))
+    Signature::from(planner::plan(text, work))
 }
 
 // The report on the text, at the front of `out`.
@@ -106,7 +106,7 @@ pub extern "C" fn walsh_report(text: &[u8], out: &mut [u8], work: &mut [u32]) ->
     ensures out_after { out.new ≡ report_left text.now (length work.old) out.old }
     ensures work_kept { WorkKept (report_verdict text.now (length out.old) (length work.old)) work.old work.new }
 {
-    replies::to_written(report::report(text, out, work))
+    Written::from(report::report(text, out, work))
 }
 
 // The reading of the text's circuit with the inputs of the mask at the values.
@@ -114,7 +114,7 @@ pub extern "C" fn walsh_report(text: &[u8], out: &mut [u8], work: &mut [u32]) ->
 pub extern "C" fn walsh_reading(text: &[u8], mask: u32, values: u32) -> Measured
     ensures { GivesReading result (reading_answer text.now mask values) }
 {
-    replies::to_measured(fixture::read(text, mask, values))
+    Measured::from(fixture::read(text, mask, values))
 }
 
 // The readings of the text's circuit sound and under a fault, and sound minus faulty.
@@ -122,7 +122,7 @@ pub extern "C" fn walsh_reading(text: &[u8], mask: u32, values: u32) -> Measured
 pub extern "C" fn walsh_pair(text: &[u8], fault: u32, mask: u32, values: u32) -> Comparison
     ensures { GivesPair result (pair_answer text.now fault mask values) }
 {
-    replies::to_comparison(fixture::compare(text, fault, mask, values))
+    Comparison::from(fixture::compare(text, fault, mask, values))
 }
 
 // Field `number` of the text, from 0; at the text's end where there is none.

@@ -1,5 +1,5 @@
 // The head of a case.
-ghost use Rattle.std.specs.Prelude.{◌≤◌, length};
+ghost use Rattle.std.specs.Prelude.{◌≤◌, ◌<◌, IfSome};
 
 use crate::numbers;
 
@@ -17,14 +17,13 @@ pub enum Call {
     Reading,
     Pair,
     Field,
-    Unknown,
 }
 
-// The call, and how much there is of everything: bytes of the text, numbers of the list, first and second arguments, lent numbers or bytes, lent
-// working numbers, bytes of what is due.
+// The call, if it has one's word, and how much there is of everything: bytes of the text, numbers of the list, first and second arguments, lent
+// numbers or bytes, lent working numbers, bytes of what is due.
 #[derive(Clone, Copy)]
 pub struct CaseHead {
-    pub call: Call,
+    pub call: Option<Call>,
     pub text: usize,
     pub list: usize,
     pub first: usize,
@@ -34,106 +33,60 @@ pub struct CaseHead {
     pub due: usize,
 }
 
-fn call_on_a_list(word: &[u8]) -> Call {
-    if text::same(word, b"coefficient") {
-        return Call::Coefficient;
+fn call_of(word: &[u8]) -> Option<Call> {
+    match word {
+        b"coefficient" => Some(Call::Coefficient),
+        b"spectrum   " => Some(Call::Spectrum),
+        b"rows       " => Some(Call::Rows),
+        b"stuck      " => Some(Call::Stuck),
+        b"opened     " => Some(Call::Opened),
+        b"bridged    " => Some(Call::Bridged),
+        b"circuit    " => Some(Call::Circuit),
+        b"plan       " => Some(Call::Plan),
+        b"report     " => Some(Call::Report),
+        b"reading    " => Some(Call::Reading),
+        b"pair       " => Some(Call::Pair),
+        b"field      " => Some(Call::Field),
+        _ => None,
     }
-    if text::same(word, b"spectrum   ") {
-        return Call::Spectrum;
-    }
-    if text::same(word, b"rows       ") {
-        return Call::Rows;
-    }
-    if text::same(word, b"stuck      ") {
-        return Call::Stuck;
-    }
-    if text::same(word, b"opened     ") {
-        return Call::Opened;
-    }
-    if text::same(word, b"bridged    ") {
-        return Call::Bridged;
-    }
-    call_on_a_text(word)
-}
-
-fn call_on_a_text(word: &[u8]) -> Call {
-    if text::same(word, b"circuit    ") {
-        return Call::Circuit;
-    }
-    if text::same(word, b"plan       ") {
-        return Call::Plan;
-    }
-    if text::same(word, b"report     ") {
-        return Call::Report;
-    }
-    if text::same(word, b"reading    ") {
-        return Call::Reading;
-    }
-    if text::same(word, b"pair       ") {
-        return Call::Pair;
-    }
-    if text::same(word, b"field      ") {
-        return Call::Field;
-    }
-    Call::Unknown
-}
-
-fn call_of(separated: bool, word: &[u8]) -> Call {
-    if separated {
-        return call_on_a_list(word);
-    }
-    Call::Unknown
 }
 
 // Whether a comma stands before each number, and a line end after the last.
-fn is_separated(head: &[u8]) -> bool
-    requires { 54 ≤ length head.now }
-{
-    let mut i: usize = 11;
-    while i < 53 {
-        if head[i] != b',' {
-            return false;
-        }
-        i += 6;
-    }
-    head[53] == b'\n'
+fn is_separated(head: &[u8; 54]) -> bool {
+    head[11..53].iter().step_by(6).all(|b| *b == b',') && head[53] == b'\n'
 }
 
 // The number after comma k.
-fn size_at(head: &[u8], k: usize) -> usize
-    requires { (54 ≤ length head.now) × (k ≤ 6) }
-    ensures { result ≤ 10000000000 }
+fn size_at(head: &[u8; 54], k: usize) -> Option<usize>
+    requires { k ≤ 6 }
+    ensures { IfSome result (λ n. n < 10000000000) }
 {
-    numbers::decimal(head, 12 + 6 * k, 17 + 6 * k) as usize
+    numbers::decimal(&head[12 + 6 * k..17 + 6 * k]).map(|n| n as usize)
 }
 
-// What a head says; one that is not separated right names no call.
-pub fn read(head: &[u8]) -> CaseHead
-    requires { 54 ≤ length head.now }
-    ensures { (result.text ≤ 10000000000) × (result.list ≤ 10000000000) × (result.first ≤ 10000000000) × (result.second ≤ 10000000000) × (result.due ≤ 10000000000) }
+// What a head says: none where a number is none; one that is not separated right names no call.
+pub fn read(head: &[u8; 54]) -> Option<CaseHead>
+    ensures { IfSome result (λ h. (h.text < 10000000000) × (h.list < 10000000000) × (h.first < 10000000000) × (h.second < 10000000000) × (h.due < 10000000000)) }
 {
-    let separated = is_separated(head);
-    CaseHead {
-        call: call_of(separated, &head[..11]),
-        text: size_at(head, 0),
-        list: size_at(head, 1),
-        first: size_at(head, 2),
-        second: size_at(head, 3),
-        room: size_at(head, 4),
-        work: size_at(head, 5),
-        due: size_at(head, 6),
-    }
+    Some(CaseHead {
+        call: if is_separated(head) {
+            call_of(&head[..11])
+        } else {
+            None
+        },
+        text: size_at(head, 0)?,
+        list: size_at(head, 1)?,
+        first: size_at(head, 2)?,
+        second: size_at(head, 3)?,
+        room: size_at(head, 4)?,
+        work: size_at(head, 5)?,
+        due: size_at(head, 6)?,
+    })
 }
 
 // A head of a call on a list: no text, no working numbers, so many arguments.
 fn is_on_a_list(h: CaseHead, first: usize, second: usize) -> bool {
-    if h.text != 0 {
-        return false;
-    }
-    if h.work != 0 {
-        return false;
-    }
-    h.first == first && h.second == second
+    h.text == 0 && h.work == 0 && h.first == first && h.second == second
 }
 
 // A head of a call on a text: so many numbers and arguments.
@@ -147,12 +100,12 @@ fn lends_nothing(h: CaseHead) -> bool {
 
 // Whether the head has what its call takes and no more.
 pub fn is_right(h: CaseHead) -> bool {
-    let call = h.call;
+    let Some(call) = h.call else {
+        return false;
+    };
     match call {
-        Call::Unknown => false,
         Call::Coefficient => is_on_a_list(h, 1, 0) && lends_nothing(h),
-        Call::Spectrum => is_on_a_list(h, 0, 0),
-        Call::Rows => is_on_a_list(h, 0, 0),
+        Call::Spectrum | Call::Rows => is_on_a_list(h, 0, 0),
         Call::Stuck => is_on_a_list(h, h.first, h.second),
         Call::Opened => is_on_a_list(h, h.first, 0),
         Call::Bridged => is_on_a_list(h, 2, 0),

@@ -3,15 +3,12 @@ ghost use Rattle.std.specs.Prelude.{◌+◌, ◌*◌, ◌≤◌, length};
 
 // A number of an answer, which is small; -1, which is never due, for any other.
 pub fn narrow(n: usize) -> i32 {
-    if 2147483647 < n {
-        return -1;
-    }
-    n as i32
+    i32::try_from(n).unwrap_or(-1)
 }
 
 // The same of 32 bits.
 pub fn narrow_word(n: u32) -> i32 {
-    narrow(n as usize)
+    i32::try_from(n).unwrap_or(-1)
 }
 
 // A comma and a number, which take at most 12 bytes, from `at` on; gives the index after them.
@@ -28,11 +25,8 @@ fn put_numbers(out: &mut [u8], at: usize, numbers: &[i32]) -> usize
     ensures { result ≤ at + 12 * length numbers.now }
 {
     let mut end = at;
-    let mut i: usize = 0;
-    while i < numbers.len() {
-        let z = numbers[i];
+    for &z in numbers {
         end = put_number(out, end, z);
-        i += 1;
     }
     end
 }

@@ -16,15 +16,12 @@ use lib.Pow.{pow_mono}
 use borrow.Author.Tests.{lt-ltb, le-ltb, ne_eqb}
 use Rattle.integer.specs.Tab.{Within}
 use Rattle.integer.proofs.Bounds.{within_more}
-use Rattle.devices.specs.Describing.{Description, described, refused_at, on_description, description_of, described_by}
-use Rattle.devices.specs.Devices.{problem_of}
-use Rattle.devices.specs.Problems.{Problem, problem_from, rows_at, Proper}
-use Rattle.devices.specs.declared.Described.{Described}
-use Rattle.devices.proofs.Descriptions.{described-proper, described-as, refused_as, refusal-some}
-use Rattle.screen.specs.Answers.{answer_number, refuse_if, screen_of, inputs_of}
+use Rattle.devices.specs.Describing.{Description, described, refused_at, on_description, description_of}
+use Rattle.devices.specs.Problems.{Problem, rows_at, Proper}
+use Rattle.devices.proofs.Descriptions.{described-proper, refusal-some}
+use Rattle.screen.specs.Answers.{Done, Refused, answer_number, refuse_if, screen_of, inputs_of}
 use Rattle.walsh.specs.Lists.{spectrum_answer}
 use Rattle.transform.specs.Spectrum.{spectrum_of}
-use Rattle.screen.specs.declared.Answer.TheVariants.{Done, Refused}
 use Rattle.screen.proofs.Screens.{inputs-is, within-screened}
 use Rattle.transform.proofs.Spectra.{within-spectrum}
 use Rattle.circuit.specs.CircuitCall.{room_answer, fault_answer, circuit_answer, fault_spectrum, circuit_spectrum}
@@ -69,21 +66,20 @@ module _ (text : List ℕ) (fault room : ℕ) where
       go (refused_at number place) e z = absurd (refusal-some text number place e z)
 
 -- by what was described
-module _ (text : List ℕ) (fault room : ℕ) (r : Described) (means : described_by r ≡ description_of text) where
-  pub text-stop : (r.number ≡ 0 → ⊥) → circuit_answer text fault room ≡ Refused r.number r.place
+module _ (text : List ℕ) (fault room : ℕ) where
+  pub text-stop : {number place : ℕ} → refused_at number place ≡ description_of text → Refused number place ≡ circuit_answer text fault room
   unfolding circuit_answer
-  text-stop n = rw (refused_as text r means n)
+  text-stop e = rw (← e)
 
-  module _ (number : r.number ≡ 0) where
-    pub served-spectrum : circuit_spectrum text fault ≡ fault_spectrum (problem_of r.device) fault
-    unfolding circuit_spectrum
-    served-spectrum = rw (described-as text r means number)
+  module _ (p : Problem) (is : described p ≡ description_of text) where
+    pub fault-stop : length p.faulted < fault → Refused 12 0 ≡ circuit_answer text fault room
+    unfolding circuit_answer fault_answer
+    fault-stop h = rw (← is, lt-ltb (length p.faulted) fault h)
 
-    module _ (count : length (problem_of r.device).faulted ≡ r.device.faults) where
-      pub fault-stop : r.device.faults < fault → circuit_answer text fault room ≡ Refused 12 0
-      unfolding circuit_answer fault_answer
-      fault-stop h = rw (described-as text r means number, count, lt-ltb r.device.faults fault h)
+    pub served : fault ≤ length p.faulted → room_answer p.inputs room ≡ circuit_answer text fault room
+    unfolding circuit_answer fault_answer
+    served h = rw (← is, le-ltb (length p.faulted) fault h)
 
-      pub served : fault ≤ r.device.faults → circuit_answer text fault room ≡ room_answer r.device.inputs room
-      unfolding circuit_answer fault_answer problem_of problem_from
-      served h = rw (described-as text r means number, count, le-ltb r.device.faults fault h)
+    pub served-spectrum : spectrum_of (rows_at p fault) ≡ circuit_spectrum text fault
+    unfolding circuit_spectrum fault_spectrum
+    served-spectrum = rw (← is)

@@ -6,9 +6,7 @@ use Rattle.std.specs.Prelude.{ℕ, ◌^◌, List, [], ltb, ℤ, length}
 use Rattle.devices.specs.Describing.{on_description, description_of}
 use Rattle.devices.specs.Problems.{Problem, rows_at}
 use Rattle.transform.specs.Spectrum.{spectrum_of}
-use Rattle.screen.specs.Answers.{refuse_if}
-use Rattle.screen.specs.declared.Answer.{Answer}
-use Rattle.screen.specs.declared.Answer.TheVariants.{Done, Refused}
+use Rattle.screen.specs.Answers.{Answer, Done, Refused, refuse_if}
 
 -- 8 unless there is room for 2^N coefficients
 unfoldable pub room_answer : ℕ → ℕ → Answer

@@ -1,6 +1,7 @@
 -- A loop that makes one column of line values, one value a row:
---   column-start, column-turn, column-ahead    its start, one turn, what it has not reached
-use mathlib.Core.Path.{◌≡◌, refl, ◌∙◌}
+--   column-start, column-turn, column_whole    its start, one turn, its end
+--   column-ahead                               what it has not reached
+use mathlib.Core.Path.{◌≡◌, refl, ◌∙◌, subst}
 use mathlib.Core.Bool.{Bool, false}
 use mathlib.Core.List.{List}
 use Prim.Native.Nat.{ℕ, ◌+◌, ◌*◌, ◌<◌}
@@ -14,6 +15,9 @@ use Rattle.columns.specs.Steps.{shown_at, Columned}
 module _ (before : List Bool) (line : ℕ) (rule : ℕ → Bool) where
   pub column-start : Columned before before line 0 rule
   column-start = record { made = λ x h. absurd (omega arith); kept = λ i h. refl }
+
+  pub column_whole : {now : List Bool} {x n : ℕ} → x ≡ n → Columned before now line x rule → Columned before now line n rule
+  column_whole {now} e = subst (λ (k : ℕ). Columned before now line k rule) e
 
   module _ (x : ℕ) {now : List Bool} (inv : Columned before now line x rule) where
     pub column-turn : (z : Bool) → line * 256 + x < length now → z ≡ rule x → Columned before (set now (line * 256 + x) z) line (x + 1) rule

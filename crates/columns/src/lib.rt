@@ -8,6 +8,7 @@ ghost use Rattle.columns.specs.Steps.{seen_as, Columned, input_rule};
 
 use statements::{Fault, Pair};
 
+#[tactic(auto, unfolding(crate::specs::Shown::stuck_or))]
 fn stuck_or(s: Pair, line: usize, v: bool) -> bool
     ensures { result ≡ stuck_or s line v }
 {
@@ -15,6 +16,7 @@ fn stuck_or(s: Pair, line: usize, v: bool) -> bool
 }
 
 // What a line shows under a fault, where v was applied or computed.
+#[tactic(auto, unfolding(crate::specs::Shown::shown))]
 fn show(f: Fault, line: usize, v: bool) -> bool
     ensures { result ≡ shown f line v }
 {
@@ -34,19 +36,21 @@ pub struct Seen {
     pub zero: bool,
 }
 
-pub fn through(f: Fault, line: usize) -> Seen
-    ensures { (result.one ≡ shown f line true) × (result.zero ≡ shown f line false) }
-{
-    Seen {
-        one: show(f, line, true),
-        zero: show(f, line, false),
+impl Seen {
+    pub fn through(f: Fault, line: usize) -> Seen
+        ensures { (result.one ≡ shown f line true) × (result.zero ≡ shown f line false) }
+    {
+        Seen {
+            one: show(f, line, true),
+            zero: show(f, line, false),
+        }
     }
-}
 
-pub fn seen_as(s: Seen, v: bool) -> bool
-    ensures { result ≡ seen_as s v }
-{
-    if v { s.one } else { s.zero }
+    pub fn shows(self, v: bool) -> bool
+        ensures { result ≡ seen_as self v }
+    {
+        if v { self.one } else { self.zero }
+    }
 }
 
 // The column of an input, from 0, on the first n rows, where it gets the AND of what is applied to p and to q: itself twice, or the two inputs of a bridge.
@@ -55,11 +59,9 @@ pub fn input_column(values: &mut [bool], input: usize, p: usize, q: usize, s: Se
     ensures { Columned values.old values.new (input + 1) n (input_rule s p q) }
 {
     let at = (input + 1) * 256;
-    let mut x: usize = 0;
-    while x < n {
+    for x in 0..n {
         // in 16 bits, which hold every row, the compiler works more of them at a time
         let row = x as u16;
-        values[at + x] = seen_as(s, ((row >> p) & (row >> q)) % 2 == 1);
-        x += 1;
+        values[at + x] = s.shows(((row >> p) & (row >> q)) % 2 == 1);
     }
 }

@@ -2,6 +2,7 @@
 --   length-differences, differences-within    the differences: their number and their bound
 --   difference-coefficient    at a label, the coefficient of the differences is the difference of the coefficients
 --   covers-difference         so it is not 0 exactly where the label covers the fault
+--   difference-turn           one difference as the machine computes it
 --   marks-are, marked_by      the masks with a bit added at such labels are the masks with the fault marked
 --   bit-more, bit_kept        one mask more, with the bit added or not
 --   no-masks, marked_more, masks-below    the masks of no fault and of one fault more, and their bound
@@ -15,18 +16,18 @@ use lib.Dec.{eqb}
 use lib.IntN.{ℤ, pos, ◌-ℤ◌, nat_abs, +ℤ_idr}
 use lib.ListN.{length, get_or, drop, set, replicate, length-replicate, get_or-replicate}
 use lib.Seq.{ext_get_or, set-get_or}
-use mir.Syntax.{w64}
-use mir.Val.{SFits, of_z}
+use mir.Syntax.{w32, w64}
+use mir.Val.{SFits, to_z, of_z}
 use borrow.Author.Tests.{eq-eqb, ne_eqb}
 use Rattle.integer.specs.Tab.{tab, nth, Within}
 use Rattle.integer.specs.Differ.{differ}
 use Rattle.integer.specs.Mask.{mask_of}
 use Rattle.integer.specs.ListTests.{Below}
-use Rattle.integer.proofs.Bounds.{nat_abs-sub, within_more}
+use Rattle.integer.proofs.Bounds.{nat_abs-sub, sfits-abs, within_more}
 use Rattle.integer.proofs.Machine.{bit_is}
 use Rattle.integer.proofs.Tabs.{length-tab, get_or-tab, tab-ext, tab-step, tab-ahead}
 use Rattle.integer.proofs.Masks.{mask_lt}
-use Rattle.integer.proofs.Differing.{word-zero}
+use Rattle.integer.proofs.Differing.{word-zero, less-kept, less_none}
 use Rattle.transform.specs.Spectrum.{signed_sum, coefficient_of, spectrum_of}
 use Rattle.transform.proofs.Halving.{sum-sub, sum-equal}
 use Rattle.cover.specs.Cover.{fault_rows, covers}
@@ -69,21 +70,24 @@ module _ (sound faulted : List ℤ) where
 
 -- the working numbers: the differences, and then their spectrum
 module _ (sound faulted work : List ℤ) (even : length faulted ≡ length sound) (differ-is : work ≡ differences sound faulted) where
-  pub work-length : length work ≡ length sound
-  work-length = ap length differ-is ∙ length-differences sound faulted
-
   pub work-within : Within 1000 sound → Within 1000 faulted → Within 2048000 work
   work-within s f = subst (Within 2048000) (sym differ-is) (within_more (differences sound faulted) (omega arith) (differences-within sound faulted even 1000 s f))
 
   module _ (spectrum : List ℤ) (spectrum-is : spectrum ≡ spectrum_of work) where
-    pub spectrum-length : length spectrum ≡ length sound
-    unfolding spectrum_of
-    spectrum-length = ap length spectrum-is ∙ length-tab (length work) (coefficient_of work) ∙ work-length
-
     pub marked_by : (labels : List ℕ) (f : ℕ) (masks : List ℕ) → f < 32 → length labels ≡ length masks → Below (length sound) labels
         → bit_added spectrum labels ((1 * 2 ^ f) % 2 ^ 32) masks ≡ marked sound faulted labels f masks
     marked_by labels f masks h e low =
         ap₂ (λ (l : List ℤ) (b : ℕ). bit_added l labels b masks) (spectrum-is ∙ ap spectrum_of differ-is) (bit_is 32 f h) ∙ marks-are sound faulted even labels f masks e low
+
+-- one difference as the machine computes it, and whether it is 0
+pub difference-turn : (a b x y : ℤ) → nat_abs a ≤ 1000 → nat_abs b ≤ 1000 → x ≡ to_z w32 (of_z w32 a) → y ≡ to_z w32 (of_z w32 b)
+    → (to_z w64 (of_z w64 (to_z w64 (of_z w64 x) -ℤ to_z w64 (of_z w64 y))) ≡ a -ℤ b)
+    × (eqb (of_z w64 (to_z w64 (of_z w64 x) -ℤ to_z w64 (of_z w64 y))) 0 ≡ not (differ a b))
+difference-turn a b x y low small e f =
+    let fa : SFits w32 a = sfits-abs (omega arith) in
+    let fb : SFits w32 b = sfits-abs (omega arith) in
+    let same = ap₂ (λ (p q : ℤ). of_z w64 (to_z w64 (of_z w64 p) -ℤ to_z w64 (of_z w64 q))) e f in
+    (ap (to_z w64) same ∙ less-kept a b fa fb, ap (λ (n : ℕ). eqb n 0) same ∙ less_none a b fa fb)
 
 module _ (coefficients : List ℤ) (labels : List ℕ) (bit : ℕ) (masks : List ℕ) where
   abbrev pub added-to : ℕ → List ℕ

@@ -9,28 +9,20 @@ ghost use Rattle.cover.specs.Steps.{differences, bit_added, marked};
 pub fn clear(masks: &mut [u32])
     ensures { masks.new ≡ replicate (length masks.old) 0 }
 {
-    let mut i: usize = 0;
-    while i < masks.len() {
-        masks[i] = 0;
-        i += 1;
-    }
+    masks.fill(0);
 }
 
 // The differences of the rows, and whether all are 0.
 fn differ(sound: &[i32], faulted: &[i32], out: &mut [i64]) -> bool
-    requires { (length faulted.now ≡ length sound.now) × (length out.old ≡ length sound.now) }
+    requires { (length faulted.now ≡ length sound.now) × (length out.old ≡ length sound.now) × Within 1000 sound.now × Within 1000 faulted.now }
     ensures value { result ≡ silent sound.now faulted.now }
     ensures out_after { out.new ≡ differences sound.now faulted.now }
 {
     let mut same = true;
-    let mut i: usize = 0;
-    while i < sound.len() {
-        let a = sound[i];
-        let b = faulted[i];
-        let d = (a as i64) - (b as i64);
-        same = same & (d == 0);
-        out[i] = d;
-        i += 1;
+    for (x, difference) in out.iter_mut().enumerate() {
+        let d = i64::from(sound[x]) - i64::from(faulted[x]);
+        same &= d == 0;
+        *difference = d;
     }
     same
 }
@@ -41,38 +33,12 @@ fn add_marks(coefficients: &[i64], labels: &[u32], bit: u32, masks: &mut [u32])
     requires below { Below bit masks.old × (bit ≤ 2 ^ 31) }
     ensures { masks.new ≡ bit_added coefficients.now labels.now bit masks.old }
 {
-    let mut i: usize = 0;
-    while i < masks.len() {
+    for (i, mask) in masks.iter_mut().enumerate() {
         let label = labels[i] as usize;
         if coefficients[label] != 0 {
-            masks[i] = masks[i] + bit;
+            *mask += bit;
         }
-        i += 1;
     }
-}
-
-fn mark_by(
-    sound: &[i32],
-    faulted: &[i32],
-    labels: &[u32],
-    inputs: u32,
-    fault: u32,
-    work: &mut [i64],
-    masks: &mut [u32],
-) -> bool
-    requires inputs_bound { (inputs ≤ 8) × (fault < 32) × (length sound.now ≡ 2 ^ inputs) × (length faulted.now ≡ length sound.now) }
-    requires labels_len { (length labels.now ≡ length sound.now) × (length masks.old ≡ length sound.now) × (length work.old ≡ length sound.now) }
-    requires below { Below (length sound.now) labels.now × Below (2 ^ fault) masks.old }
-    requires within { Within 1000 sound.now × Within 1000 faulted.now }
-    ensures value { result ≡ silent sound.now faulted.now }
-    ensures masks_after { result ≡ false → masks.new ≡ marked sound.now faulted.now labels.now fault masks.old }
-{
-    if differ(sound, faulted, work) {
-        return true;
-    }
-    transform::transform(work, inputs);
-    add_marks(work, labels, 1 << fault, masks);
-    false
 }
 
 // Marks the fault at each label that covers it, unless the fault is silent; whether it is.
@@ -93,5 +59,11 @@ pub fn mark(
 {
     let n = sound.len();
     let mut work = [0i64; 256];
-    mark_by(sound, faulted, labels, inputs, fault, &mut work[..n], masks)
+    let work = &mut work[..n];
+    if differ(sound, faulted, work) {
+        return true;
+    }
+    transform::transform(work, inputs);
+    add_marks(work, labels, 1 << fault, masks);
+    false
 }

@@ -23,17 +23,13 @@ pub const ORDER: [u32; 256] = [
 pub fn labels_below(n: usize) -> [u32; 256]
     ensures { take (length (labels_below n)) result ≡ labels_below n }
 {
-    let order = ORDER;
     let mut labels = [0u32; 256];
     let mut count: usize = 0;
-    let mut i: usize = 0;
-    while i < 256 {
-        let label = order[i];
+    for label in ORDER {
         if (label as usize) < n {
             labels[count] = label;
             count += 1;
         }
-        i += 1;
     }
     labels
 }

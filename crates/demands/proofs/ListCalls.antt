@@ -21,9 +21,7 @@ use Rattle.integer.specs.Tab.{nth}
 use Rattle.integer.proofs.Bools.{clash}
 use Rattle.integer.proofs.Division.{nat_abs-quot}
 use Rattle.integer.proofs.Firsts.{first-before, first-at, first-all}
-use Rattle.screen.specs.Answers.{answer_number, answer_place, and_then, refuse_if, minus, inputs_of, outside_at, outside, first_outside, screen_of}
-use Rattle.screen.specs.declared.Answer.{Answer}
-use Rattle.screen.specs.declared.Answer.TheVariants.{Done, Refused}
+use Rattle.screen.specs.Answers.{Answer, Done, Refused, answer_number, answer_place, and_then, refuse_if, minus, inputs_of, outside_at, outside, first_outside, screen_of}
 use Rattle.screen.proofs.Screens.{above_zero, inputs-power, inputs-most, inputs-is, outside-small, small-outside, ready, then-done}
 use Rattle.transform.specs.Spectrum.{coefficient_of, spectrum_of}
 use Rattle.transform.proofs.Spectra.{length-spectrum, nth-spectrum}

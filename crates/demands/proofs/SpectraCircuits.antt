@@ -17,9 +17,7 @@ use lib.ListN.{length, get_or}
 use lib.Signed.{lt_z}
 use borrow.Author.Tests.{eq-eqb, ne_eqb, lt-ltb, le-ltb}
 use Rattle.integer.proofs.Tabs.{get_or-tab}
-use Rattle.screen.specs.Answers.{answer_number, and_then, minus, screen_of}
-use Rattle.screen.specs.declared.Answer.{Answer}
-use Rattle.screen.specs.declared.Answer.TheVariants.{Done, Refused}
+use Rattle.screen.specs.Answers.{Answer, Done, Refused, answer_number, and_then, minus, screen_of}
 use Rattle.screen.proofs.Screens.{screen-not-11}
 use Rattle.transform.specs.Spectrum.{term_of, signed_sum, coefficient_of, spectrum_of}
 use Rattle.transform.proofs.Spectra.{length-spectrum, nth-spectrum}
@@ -53,8 +51,7 @@ use Rattle.agreement.proofs.OpenedLines.{opened-lines-agree}
 use Rattle.agreement.proofs.BridgedInputs.{bridge-rows, bridges-answer, bridges-agree}
 use Rattle.agreement.proofs.BridgedTables.{table-bridge-rows, table-bridges-answer, table-bridges-agree}
 use Rattle.reading.proofs.AgreeingRows.{agrees-exactly}
-use Rattle.reading.specs.Readings.{case_of, reading_number}
-use Rattle.reading.specs.declared.Reading.{Reading}
+use Rattle.reading.specs.Readings.{ReadingAnswer, case_of, reading_number}
 use Rattle.fixture.specs.ReadingCall.{some_above_one, is_weighted, fault_mean, fixes_inputs, unless12, reading_answer, sum_of, row_count}
 use Rattle.demands.specs.DemandTwo.{SpectraRight, FaultySpectraRight, CircuitsRight, TablesRight, ReadingsRight, AboveOne, CaseRight}
 use Rattle.demands.proofs.ListCalls.{ZeroDone, screen-zero, spectrum-zero, rows-zero, stuck-zero, opened-zero, bridged-zero}
@@ -180,7 +177,7 @@ pub case-right : (text : List ℕ) (n : Netlist) (mask values : ℕ) → parse_o
 unfolding reading_answer
 case-right text n mask values e z = rw e (go (fixes_inputs n.inputs mask values) (rw e at z))
   where
-    r : Reading
+    r : ReadingAnswer
     r = case_of (is_weighted n) mask (fault_mean n 0 mask values)
 
     go : (t : Bool) → reading_number (unless12 t r) ≡ 0 → CaseRight n mask (unless12 t r)

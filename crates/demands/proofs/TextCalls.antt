@@ -16,8 +16,7 @@ use lib.Ieee.{Float}
 use lib.ListN.{length}
 use borrow.Author.Tests.{eqb-true, ltb-true, ltb-false, leb-true, lt-ltb, le-ltb, le-leb, eq-eqb, ne_eqb}
 use Rattle.integer.proofs.Bools.{both, clash}
-use Rattle.screen.specs.Answers.{answer_number, answer_place, refuse_if}
-use Rattle.screen.specs.declared.Answer.TheVariants.{Done, Refused}
+use Rattle.screen.specs.Answers.{Done, Refused, answer_number, answer_place, refuse_if}
 use Rattle.netlist.specs.Circuits.{Netlist}
 use Rattle.netlist.specs.Parsing.{Parse, accepted, rejected, parse_of, on_parse}
 use Rattle.netlist.proofs.Assembling.{too_long}
@@ -27,19 +26,14 @@ use Rattle.devices.proofs.TextKinds.{table-unparsed}
 use Rattle.devices.specs.Describing.{Description, described, refused_at, description_of, on_description}
 use Rattle.devices.specs.Problems.{Problem}
 use Rattle.circuit.specs.CircuitCall.{room_answer, fault_answer, circuit_answer}
-use Rattle.planner.specs.PlanCall.{Verdict, refused, planned, verdict_of, working_numbers, problem_verdict, plan_verdict, plan_numbers, plan_answer, refusal_number, may_use, WorkKept}
+use Rattle.planner.specs.PlanCall.{Verdict, refused, planned, verdict_of, working_numbers, problem_verdict, plan_verdict, plan_numbers, plan_answer, verdict_number, may_use, WorkKept, Planned}
 use Rattle.planner.specs.Demand.{Possible, Right}
-use Rattle.planner.specs.declared.Planned.{Planned}
 use Rattle.planner.proofs.Demanded.{demand-three}
 use Rattle.report_lines.specs.ReportLines.{refused_line, report_bytes}
-use Rattle.report.specs.declared.Reported.{Reported}
-use Rattle.report.specs.ReportCall.{verdict_lines, problem_report, report_of, short, report_answer, report_left, report_verdict}
-use Rattle.reading.specs.Readings.{none, case_with, case_of, reading_number, reading_place, reading_of, fixed_of}
-use Rattle.reading.specs.declared.Reading.{Reading}
-use Rattle.reading.specs.declared.Reading.TheVariants.{Syndrome, Weighted, Constrained, Refused as Unread}
+use Rattle.report.specs.ReportCall.{verdict_lines, problem_report, report_of, short, report_answer, report_left, report_verdict, Reported}
+use Rattle.reading.specs.Readings.{ReadingAnswer, Syndrome, Weighted, Constrained, Unreadable as Unread, none, case_with, case_of, reading_number, reading_place, reading_of, fixed_of}
 use Rattle.fixture.proofs.Exactly.{case-done}
-use Rattle.fixture.specs.declared.Compared.{Compared}
-use Rattle.fixture.specs.ReadingCall.{fixes_inputs, is_weighted, fault_mean, unless12, circuit_reading, reading_answer, unread, pair_numbers, names_fault, circuit_pair, pair_answer}
+use Rattle.fixture.specs.ReadingCall.{Compared, fixes_inputs, is_weighted, fault_mean, unless12, circuit_reading, reading_answer, unread, pair_numbers, names_fault, circuit_pair, pair_answer}
 use Rattle.demands.specs.Tests.{NoRefusal, RefusedIf, by-this, by-later, AtNone, OnDevice, OnText}
 use Rattle.demands.specs.Refusals.{CircuitTests, FirstSilentFault, PlanTests, FixesInputs, ReadingTests, CircuitFault, PairTests}
 use Rattle.demands.specs.DemandOne.{PlanWrites, ReportWrites}
@@ -119,13 +113,13 @@ module _ (text : List ℕ) (work : ℕ) where
 
 -- ---- the working numbers
 
-number_is : (v : Verdict) → (plan_numbers v).number ≡ refusal_number v
+number_is : (v : Verdict) → (plan_numbers v).number ≡ verdict_number v
 number_is (refused number place) = refl
 number_is (planned labels) = refl
 
-kept_by : (v : Verdict) → (refusal_number v ≡ 0 → ⊥) → (refusal_number v ≡ 13 → ⊥) → (refusal_number v ≡ 14 → ⊥) → may_use v ≡ false
+kept_by : (v : Verdict) → (verdict_number v ≡ 0 → ⊥) → (verdict_number v ≡ 13 → ⊥) → (verdict_number v ≡ 14 → ⊥) → may_use v ≡ false
 unfolding may_use
-kept_by v a b c = rw (ne_eqb (refusal_number v) 0 a, ne_eqb (refusal_number v) 13 b, ne_eqb (refusal_number v) 14 c)
+kept_by v a b c = rw (ne_eqb (verdict_number v) 0 a, ne_eqb (verdict_number v) 13 b, ne_eqb (verdict_number v) 14 c)
 
 pub plan-writing : (text before after : List ℕ) → WorkKept (plan_verdict text (length before)) before after → PlanWrites text before after
 unfolding plan_answer
@@ -236,7 +230,7 @@ module _ (text : List ℕ) (mask values : ℕ) where
       go (rejected number place) e = inl e
       go (accepted n) e = inr (n, e, fits (fixes_inputs n.inputs mask values) refl)
         where
-          r : Reading
+          r : ReadingAnswer
           r = case_of (is_weighted n) mask (fault_mean n 0 mask values)
 
           fits : (t : Bool) → fixes_inputs n.inputs mask values ≡ t → ReadingTests mask values n (reading_number (unless12 t r)) (reading_place (unless12 t r))
@@ -247,7 +241,7 @@ module _ (text : List ℕ) (mask values : ℕ) where
   pub reading-zero : (reading_number (reading_answer text mask values) ≡ 0 → ⊥) → (reading_of (reading_answer text mask values) ≡ none) × (fixed_of (reading_answer text mask values) ≡ 0)
   reading-zero = go (reading_answer text mask values)
     where
-      go : (r : Reading) → (reading_number r ≡ 0 → ⊥) → (reading_of r ≡ none) × (fixed_of r ≡ 0)
+      go : (r : ReadingAnswer) → (reading_number r ≡ 0 → ⊥) → (reading_of r ≡ none) × (fixed_of r ≡ 0)
       go (Syndrome x) f = absurd (f refl)
       go (Weighted x) f = absurd (f refl)
       go (Constrained x fixed) f = absurd (f refl)

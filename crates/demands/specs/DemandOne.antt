@@ -11,8 +11,7 @@ use Rattle.statements.specs.Lines.{head_tests, head_refusal, output_tests, outpu
 use Rattle.gate_lines.specs.GateLines.{gate_tests, gate_refusal, gate_of, narrow_refusal, narrow_of}
 use Rattle.sections.specs.FaultLines.{nth_fault_refusal, nth_stuck_refusal}
 use Rattle.sections.specs.Sections.{lines_from, lines_of}
-use Rattle.screen.specs.Answers.{answer_number, answer_place}
-use Rattle.screen.specs.declared.Answer.{Answer}
+use Rattle.screen.specs.Answers.{Answer, answer_number, answer_place}
 use Rattle.results.specs.Results.{written, leaves}
 use Rattle.walsh.specs.Coefficients.{found_of, found_number, found_place, found_value}
 use Rattle.walsh.specs.Lists.{spectrum_answer, rows_answer}

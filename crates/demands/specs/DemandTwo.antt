@@ -28,9 +28,7 @@ use Rattle.lookup.specs.TableRows.{fault_row, table_rows}
 use Rattle.circuit.specs.CircuitCall.{circuit_answer, circuit_spectrum}
 use Rattle.lookup.specs.StuckPairs.{stuck_lines, stuck_values, pairs_of, OfInputs}
 use Rattle.agreement.specs.Opened.{opened_circuit_rows}
-use Rattle.reading.specs.Readings.{agrees, whole_sum, count_of, reading_number}
-use Rattle.reading.specs.declared.Reading.{Reading}
-use Rattle.reading.specs.declared.Reading.TheVariants.{Syndrome, Weighted, Constrained}
+use Rattle.reading.specs.Readings.{ReadingAnswer, Syndrome, Weighted, Constrained, agrees, whole_sum, count_of, reading_number}
 use Rattle.fixture.specs.ReadingCall.{reading_answer, pair_answer, sum_of, row_count, ReadExactly, ComparedExactly}
 use Rattle.demands.specs.Refusals.{CircuitFault, TableFault}
 
@@ -117,7 +115,7 @@ pub record ReadingsRight (text : List ℕ) (n : Netlist) (mask values : ℕ) : T
 abbrev pub AboveOne : Netlist → ℕ → Type 0
 AboveOne n k = lt_z (pos 1) (get_or n.outputs k no_output).weight ≡ true
 
-pub record CaseRight (n : Netlist) (mask : ℕ) (r : Reading) : Type 0 where
+pub record CaseRight (n : Netlist) (mask : ℕ) (r : ReadingAnswer) : Type 0 where
   pub constrained : (mask ≡ 0 → ⊥) → (x : Float) × (r ≡ Constrained x (ones mask))
   pub weighted : mask ≡ 0 → (1 < length n.outputs) ⊎ ((k : ℕ) × (k < length n.outputs) × AboveOne n k) → (x : Float) × (r ≡ Weighted x)
   pub plain : mask ≡ 0 → length n.outputs ≤ 1 → ((k : ℕ) → k < length n.outputs → AboveOne n k → ⊥) → (x : Float) × (r ≡ Syndrome x)

@@ -2,7 +2,6 @@
 --   described-proper    the problem of an accepted text is proper
 --   refusal-small, refusal-some    a refusal's number and place are small, and its number is not 0
 --   table-text, circuit-text    by the word of the first line; so a text whose first word is not `table` is what document 01 makes of it
---   described-as, refused_as    by the answer to a text
 use mathlib.Core.Path.{◌≡◌, refl, sym, ◌∙◌, subst}
 use mathlib.Core.Bool.{Bool, true, false, cond}
 use mathlib.Core.List.{List}
@@ -19,10 +18,8 @@ use Rattle.netlist.specs.Places.{CircuitLineNumber}
 use Rattle.tables.specs.TablePlaces.{TableLineNumber}
 use Rattle.tables.proofs.TableAcceptance.{table-right}
 use Rattle.tables.proofs.TableRefusals.{table-refused}
-use Rattle.devices.specs.Describing.{Description, described, refused_at, of_circuit, of_table, description_of, described_by}
-use Rattle.devices.specs.Devices.{problem_of}
+use Rattle.devices.specs.Describing.{Description, described, refused_at, of_circuit, of_table, description_of}
 use Rattle.devices.specs.Problems.{Problem, Proper}
-use Rattle.devices.specs.declared.Described.{Described}
 use Rattle.devices.proofs.ProblemRows.{circuit-proper, table-proper}
 
 -- what holds of the problem, where there is one, and of a refusal's number and place
@@ -82,13 +79,3 @@ table-text text e = rw e
 pub circuit-text : (text : List ℕ) → is_table text ≡ false → description_of text ≡ of_circuit (parse_of text)
 unfolding description_of
 circuit-text text e = rw e
-
--- by the answer r
-module _ (text : List ℕ) (r : Described) (means : described_by r ≡ description_of text) where
-  pub described-as : r.number ≡ 0 → description_of text ≡ described (problem_of r.device)
-  unfolding described_by
-  described-as z = sym means ∙ rw (eq-eqb r.number 0 z)
-
-  pub refused_as : (r.number ≡ 0 → ⊥) → description_of text ≡ refused_at r.number r.place
-  unfolding described_by
-  refused_as n = sym means ∙ rw (ne_eqb r.number 0 n)

@@ -1,4 +1,4 @@
 pub mod Descriptions
-pub mod Fitting
 pub mod ProblemRows
 pub mod TextKinds
+pub mod Forms

@@ -17,6 +17,7 @@ use Rattle.netlist.specs.Circuits.{Netlist, fault_at}
 use Rattle.netlist.specs.WellFormed.{WellFormed}
 use Rattle.simulation.specs.Rows.{rows_of}
 use Rattle.simulation.proofs.RowBounds.{length-rows, rows-bounded}
+use Rattle.sections.specs.FaultLines.{fault_numbered}
 use Rattle.statements.specs.Items.{sound}
 use Rattle.statements.specs.declared.Fault.{Fault}
 use Rattle.tables.specs.Tables.{TruthTable, table_fault_at}
@@ -30,11 +31,6 @@ at-mapped : {A B : Type 0} (f : A → B) (l : List A) (i : ℕ) (d : A) (e : B) 
 at-mapped f [] i d e h = absurd (omega arith)
 at-mapped f (x ∷ xs) zero d e h = refl
 at-mapped f (x ∷ xs) (suc i) d e h = at-mapped f xs i d e (omega arith)
-
--- 0 for sound, else 1 to Q
-abbrev pub fault_numbered : List Fault → ℕ → Fault
-fault_numbered faults zero = sound
-fault_numbered faults (suc k) = get_or faults k sound
 
 module _ (inputs : ℕ) (rows : Fault → List ℤ) (faults : List Fault) (cap : ℕ) where
   abbrev P : Problem

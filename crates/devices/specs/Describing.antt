@@ -1,13 +1,12 @@
 -- What a text describes: its problem, or its refusal with number and place (document 02, note 1):
 --   "Add a text `table,N,Q,K` .." "the circuit, plan and report calls take tables, circuit answers are as before"
 -- A text is a table where the first field of its first line is `table`; every other text is read as document 01 has it.
-use Rattle.std.specs.Prelude.{ℕ, cond, List, eqb}
+use Rattle.std.specs.Prelude.{ℕ, cond, List}
 use Rattle.netlist.specs.Parsing.{Parse, on_parse, parse_of}
 use Rattle.tables.specs.TableLines.{is_table}
 use Rattle.tables.specs.TableParsing.{TableParse, on_table, table_of}
-use Rattle.devices.specs.Devices.{circuit_problem, table_problem, problem_of}
+use Rattle.devices.specs.Devices.{circuit_problem, table_problem}
 use Rattle.devices.specs.Problems.{Problem}
-use Rattle.devices.specs.declared.Described.{Described}
 
 pub data Description : Type 0 where
   described : Problem → Description
@@ -26,7 +25,3 @@ of_table p = on_table (λ t. described (table_problem t)) refused_at p
 
 unfoldable pub description_of : List ℕ → Description
 description_of text = cond (is_table text) (of_table (table_of text)) (of_circuit (parse_of text))
-
--- what the answer to a text means: number 0 where it is accepted
-unfoldable pub described_by : Described → Description
-described_by r = cond (eqb r.number 0) (described (problem_of r.device)) (refused_at r.number r.place)

@@ -1,3 +1,4 @@
 pub mod Describing
 pub mod Devices
 pub mod Problems
+pub mod Forms

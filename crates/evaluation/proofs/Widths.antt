@@ -2,10 +2,9 @@
 --   reads-one .. reads-four    by which of B, C and D is the first that is not there
 --   reads-below                they are below its own line
 --   map_below                  rules that agree below a number give the same of numbers below it
---   alone-not, never-not       with no B it is a `not`, with one it is none
---   told-never                 nor is the kind that was told
+--   alone-not                  with no B it is a `not`
 --   column-told, column-as     a column made for the kind that was told, and for the lines that are read
-use mathlib.Core.Path.{◌≡◌, refl, ap, ap₂, ◌∙◌, subst, subst⁻¹}
+use mathlib.Core.Path.{◌≡◌, refl, ap, ap₂, subst⁻¹}
 use mathlib.Core.Bool.{Bool}
 use mathlib.Core.List.{List, [], ◌∷◌, map}
 use mathlib.Core.Logic.{◌⊎◌, inl, inr}
@@ -71,12 +70,6 @@ alone-not kind b r none = go (second-some kind b r)
     go : (kind ≡ Not) ⊎ ((kind ≡ Not → ⊥) × (1 ≤ b)) → kind ≡ Not
     go (inl is) = is
     go (inr other) = absurd (omega (arith, other.1))
-
-pub never-not : (kind : Kind) (b : ℕ) → SecondRight kind b → (b ≡ 0 → ⊥) → kind ≡ Not → ⊥
-never-not kind b r some e = some (subst (λ (k : Kind). SecondRight k b) e r)
-
-pub told-never : {kind told : Kind} → kind ≡ told → (kind ≡ Not → ⊥) → told ≡ Not → ⊥
-told-never e never f = never (e ∙ f)
 
 module _ (before after : List Bool) (s : Seen) (line n : ℕ) (lines : List ℕ) where
   pub column-told : {kind told : Kind} → kind ≡ told → Columned before after line n (gate_rule before s told lines) → Columned before after line n (gate_rule before s kind lines)

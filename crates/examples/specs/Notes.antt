@@ -1,6 +1,6 @@
 -- Document 02's examples, note by note, as a table like that of document 01's.
 use Rattle.std.specs.Prelude.{List, [], ◌∷◌, pos}
-use Rattle.reading.specs.declared.Reading.TheVariants.{Refused}
+use Rattle.reading.specs.Readings.{Unreadable}
 use Rattle.screen.specs.Answers.{minus}
 use Rattle.examples.specs.BridgeTexts.{bridged_listing, bridged_listing_report, silent_bridge, silent_bridge_report, bridged_table, bridged_table_report, gate_with, table_with}
 use Rattle.examples.specs.Functions.{bridged_figure}
@@ -26,8 +26,8 @@ note_table =
     ∷ no_plan short_table 2 2
     ∷ no_plan line_above_table 5 3
     -- a table is never read
-    ∷ reading small_table 0 0 (Refused 2 1)
-    ∷ reading comma_table 0 0 (Refused 2 1)
+    ∷ reading small_table 0 0 (Unreadable 2 1)
+    ∷ reading comma_table 0 0 (Unreadable 2 1)
     -- Note 2: an `and` of three inputs, sound and under a stuck input; its plan and report
     ∷ circuit wide_and 0 (pos 1 ∷ minus 1 ∷ minus 1 ∷ pos 1 ∷ minus 1 ∷ pos 1 ∷ pos 1 ∷ minus 1 ∷ [])
     ∷ circuit wide_and 1 (pos 0 ∷ pos 0 ∷ pos 0 ∷ pos 0 ∷ pos 0 ∷ pos 0 ∷ pos 0 ∷ pos 0 ∷ [])

@@ -7,19 +7,16 @@ use Rattle.integer.specs.Tab.{nth}
 use Rattle.fixture.specs.ReadingCall.{reading_answer, pair_answer}
 use Rattle.circuit.specs.CircuitCall.{circuit_answer, circuit_spectrum}
 use Rattle.planner.specs.PlanCall.{planned, refused, working_numbers, plan_numbers, plan_answer}
-use Rattle.reading.specs.declared.Reading.{Reading}
-use Rattle.reading.specs.declared.Reading.TheVariants.{Syndrome, Weighted, Constrained, Refused}
+use Rattle.reading.specs.Readings.{ReadingAnswer, Syndrome, Weighted, Constrained, Unreadable}
 use Rattle.report_lines.specs.ReportLines.{report_bytes}
-use Rattle.report.specs.ReportCall.{report_answer, report_left}
-use Rattle.report.specs.declared.Reported.{Reported}
+use Rattle.report.specs.ReportCall.{report_answer, report_left, Reported}
 use Rattle.screen.specs.Answers.{minus, answer_number, answer_place}
 use Rattle.results.specs.Results.{leaves}
-use Rattle.walsh.specs.Coefficients.{found_of}
+use Rattle.walsh.specs.Coefficients.{Coefficient, found_of}
 use Rattle.walsh.specs.Lists.{spectrum_answer, rows_answer, inverse_rows}
 use Rattle.transform.specs.Spectrum.{coefficient_of, spectrum_of}
 use Rattle.faults.specs.Faults.{stuck_of, stuck_answer, stuck_spectrum_of, stuck_rows, kept_inputs, opened_answer, opened_spectrum_of, opened_rows, bridged_rows}
 use Rattle.bridges.specs.Bridges.{bridged_answer, bridged_spectrum_of}
-use Rattle.walsh.specs.declared.Found.TheVariants.{Coefficient}
 use Rattle.examples.specs.Functions.{figure, product_or_input, selected, gated, gated_opened}
 use Rattle.examples.specs.Texts.{product_or_input_text, gated_text, listing, listing_report, silent_text, silent_report, pair_text, and_or_text, xor_not_text, half_and_one_text}
 
@@ -49,7 +46,7 @@ pub data Case : Type 0 where
   -- a circuit's text and its report
   report : List ℕ → List ℕ → Case
   -- a circuit's text, a mask of fixed inputs, their values and the reading
-  reading : List ℕ → ℕ → ℕ → Reading → Case
+  reading : List ℕ → ℕ → ℕ → ReadingAnswer → Case
   -- a circuit's text, the number of a fault, a mask, its values and the readings: sound, faulty, and sound minus faulty
   compares : List ℕ → ℕ → ℕ → ℕ → Float → Float → Float → Case
 
@@ -175,7 +172,7 @@ table =
     ∷ reading product_or_input_text 1 1 (Constrained (plus 75 2) 1)
     ∷ compares product_or_input_text 4 1 1 (plus 75 2) (plus 1 0) (less 25 2)
     ∷ reading product_or_input_text 7 4 (Constrained (plus 1 0) 3)
-    ∷ reading product_or_input_text 1 2 (Refused 12 0)
+    ∷ reading product_or_input_text 1 2 (Unreadable 12 0)
     -- two outputs make a weighted sum; a fixed input goes first
     ∷ reading (pair_text "circuit,2,4,2,2,1") 0 0 (Weighted (plus 1 0))
     ∷ reading (pair_text "circuit,2,4,2,2,1") 1 0 (Constrained (plus 5 1) 1)

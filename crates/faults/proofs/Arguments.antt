@@ -22,12 +22,14 @@ use lib.ListN.{length, get_or, take, drop, drop_of_length-le}
 use lib.Pow.{pow_mono}
 use lib.Seq.{drop-cons}
 use borrow.Author.Tests.{ltb-true, leb-true, eqb-true, lt-ltb, le-ltb, le-leb, lt-leb, eq-eqb, ne_eqb}
+use Rattle.std.specs.List.{list_all}
+use Rattle.std.proofs.lemmas.Bool.Decides.{nat_tests}
 use Rattle.integer.specs.Sum.{signed}
 use Rattle.integer.proofs.Bools.{both}
 use Rattle.screen.specs.Answers.{inputs_of}
 use Rattle.screen.proofs.Screens.{inputs-most, inputs-power}
 use Rattle.faults.specs.Faults.{kept_inputs, stuck_of, rising_inputs, binary, few_of, stuck_right, opened_right, lines_after}
-use Rattle.faults.specs.Steps.{kept_of}
+use Rattle.faults.specs.Steps.{Kept}
 use Rattle.faults.proofs.Sticking.{Rises, Values}
 use Rattle.faults.proofs.Opening.{Bits}
 
@@ -41,38 +43,21 @@ signed-some (suc p) z f = refl
 
 -- One value, one line after the other.
 
-module _ (values : List ℕ) (i : ℕ) where
-  pub binary-stop : i < length values → 1 < get_or values i 0 → binary (drop i values) ≡ false
-  unfolding binary
-  binary-stop h g = rw (drop-cons values i 0 h, lt-leb (get_or values i 0) 1 g)
+pub binary_all : (values : List ℕ) → binary values ≡ list_all (λ v. leb v 1) values
+unfolding binary
+binary_all [] = refl
+binary_all (v ∷ rest) = ap (λ (b : Bool). leb v 1 && b) (binary_all rest)
 
-  pub binary-next : i < length values → get_or values i 0 ≤ 1 → binary (drop i values) ≡ binary (drop (i + 1) values)
-  unfolding binary
-  binary-next h g = rw (drop-cons values i 0 h, le-leb (get_or values i 0) 1 g, add-one i)
+pub rising_turn : (last n : ℕ) (lines : List ℕ) (i : ℕ) → i < length lines
+    → rising_inputs last n (drop i lines) ≡ (ltb last (get_or lines i 0) && (leb (get_or lines i 0) n && rising_inputs (get_or lines i 0) n (drop (i + 1) lines)))
+unfolding rising_inputs
+rising_turn last n lines i h = rw (drop-cons lines i 0 h, add-one i)
 
-  pub binary-end : length values ≤ i → binary (drop i values) ≡ true
-  unfolding binary
-  binary-end h = rw (drop_of_length-le values h)
+pub rising_end : (last n : ℕ) (lines : List ℕ) (i : ℕ) → length lines ≤ i → rising_inputs last n (drop i lines) ≡ true
+unfolding rising_inputs
+rising_end last n lines i h = rw (drop_of_length-le lines h)
 
-module _ (last n : ℕ) (lines : List ℕ) (i : ℕ) where
-  pub rising-low : i < length lines → get_or lines i 0 ≤ last → rising_inputs last n (drop i lines) ≡ false
-  unfolding rising_inputs
-  rising-low h g = rw (drop-cons lines i 0 h, le-ltb last (get_or lines i 0) g)
-
-  module _ (h : i < length lines) (above : last < get_or lines i 0) where
-    pub rising-high : n < get_or lines i 0 → rising_inputs last n (drop i lines) ≡ false
-    unfolding rising_inputs
-    rising-high g = rw (drop-cons lines i 0 h, lt-ltb last (get_or lines i 0) above, lt-leb (get_or lines i 0) n g)
-
-    pub rising-next : get_or lines i 0 ≤ n → rising_inputs last n (drop i lines) ≡ rising_inputs (get_or lines i 0) n (drop (i + 1) lines)
-    unfolding rising_inputs
-    rising-next g = rw (drop-cons lines i 0 h, lt-ltb last (get_or lines i 0) above, le-leb (get_or lines i 0) n g, add-one i)
-
-  pub rising-end : length lines ≤ i → rising_inputs last n (drop i lines) ≡ true
-  unfolding rising_inputs
-  rising-end h = rw (drop_of_length-le lines h)
-
--- What the tests mean.
+pub ruleset rising_turns = (rising_turn, rising_end, nat_tests)
 
 pub rising-parts : (last n i : ℕ) (rest : List ℕ) → rising_inputs last n (i ∷ rest) ≡ true → (last < i) × (i ≤ n) × (rising_inputs i n rest ≡ true)
 unfolding rising_inputs
@@ -155,6 +140,22 @@ module _ (n : ℕ) (inputs values : List ℕ) where
   unfolding stuck_right
   stuck-binary e f = rw (e, eq-eqb (length values) (length inputs) f)
 
+-- no input of a list that has none
+pub stuck_unsized : (inputs values : List ℕ) → stuck_right 0 inputs values ≡ false
+unfolding stuck_right few_of rising_inputs
+stuck_unsized [] values = refl
+stuck_unsized (i ∷ rest) values = none (few_of (length (i ∷ rest))) (eqb (length values) (length (i ∷ rest))) (binary values) (low i)
+  where
+    low : (i : ℕ) → (ltb 0 i && (leb i 0 && rising_inputs i 0 rest)) ≡ false
+    low zero = refl
+    low (suc i) = rw (lt-ltb 0 (suc i) (omega arith), lt-leb (suc i) 0 (omega arith))
+
+    none : (a b c : Bool) {d : Bool} → d ≡ false → (a && (b && (c && d))) ≡ false
+    none true true true e = e
+    none true true false e = refl
+    none true false c e = refl
+    none false b c e = refl
+
 pub record StuckRight (n : ℕ) (inputs values : List ℕ) : Type 0 where
   pub few : length inputs ≤ 3
   pub some : 1 ≤ length inputs
@@ -198,28 +199,6 @@ module _ (inputs : ℕ) (values : List ℕ) where
       let k = few-means (length values) p.0 in
       record { few = k.1; some = k.0; fewer = ltb-true (length values) inputs q.0; bits = q.1 }
 
-  pub kept-is : opened_right inputs values ≡ true → kept_of inputs values ≡ inputs - length values
-  unfolding kept_of
-  kept-is e = ap (λ (b : Bool). cond b (inputs - length values) 0) e
-
-  pub kept-none : opened_right inputs values ≡ false → kept_of inputs values ≡ 0
-  unfolding kept_of
-  kept-none e = ap (λ (b : Bool). cond b (inputs - length values) 0) e
-
-  pub kept_above : 0 < kept_of inputs values → opened_right inputs values ≡ true
-  kept_above h = pick (opened_right inputs values) refl
-    where
-      pick : (b : Bool) → opened_right inputs values ≡ b → b ≡ true
-      pick true e = refl
-      pick false e = absurd (omega (arith, kept-none e))
-
-  pub kept-right : opened_right inputs values ≡ ltb 0 (kept_of inputs values)
-  kept-right = pick (opened_right inputs values) refl
-    where
-      pick : (b : Bool) → opened_right inputs values ≡ b → b ≡ ltb 0 (kept_of inputs values)
-      pick true e = let r = (opened-right-means e).fewer in sym (lt-ltb 0 (kept_of inputs values) (omega (arith, kept-is e)))
-      pick false e = sym (le-ltb 0 (kept_of inputs values) (omega (arith, kept-none e)))
-
 -- The lines after line n.
 
 pub lines-after : (n : ℕ) (values : List ℕ) → length values ≤ 3 → stuck_of (take (length values) ((n + 1) ∷ (n + 2) ∷ (n + 3) ∷ [])) values ≡ lines_after n values
@@ -245,15 +224,12 @@ rising-after n m (suc (suc (suc zero))) h l =
 rising-after n m (suc (suc (suc (suc k)))) h l = absurd (omega arith)
 
 -- at least one line is opened
-pub kept-most : (n : ℕ) (values : List ℕ) → kept_of (inputs_of n) values ≤ 10
-kept-most n values = pick (opened_right (inputs_of n) values) refl
-  where
-    pick : (b : Bool) → opened_right (inputs_of n) values ≡ b → kept_of (inputs_of n) values ≤ 10
-    pick true e =
-        let o = opened-right-means (inputs_of n) values e in
-        let some = o.some in
-        omega (arith, kept-is (inputs_of n) values e, inputs-most n)
-    pick false e = omega (arith, kept-none (inputs_of n) values e)
+pub kept_few : (n k : ℕ) → 1 ≤ k → inputs_of n - k ≤ 10
+kept_few n k h = omega (arith, inputs-most n)
+
+pub ruleset stuck_tests = (stuck_unsized, binary_all)
+
+pub ruleset opened_tests = (kept_few, binary_all)
 
 -- What a call with opened lines knows: kept is the n of n + k inputs.
 pub record OpenedCall (c : List ℤ) (values : List ℕ) (kept : ℕ) : Type 0 where
@@ -264,11 +240,10 @@ pub record OpenedCall (c : List ℤ) (values : List ℕ) (kept : ℕ) : Type 0 w
   pub most : kept ≤ 10
   pub inside : 2 ^ kept ≤ length c
 
-pub opened-call : (c : List ℤ) (values : List ℕ) (kept : ℕ) → 0 < kept → kept ≡ kept_of (inputs_of (length c)) values → OpenedCall c values kept
-opened-call c values kept h e =
-    let right = kept_above (inputs_of (length c)) values (omega arith) in
-    let o = opened-right-means (inputs_of (length c)) values right in
-    let is = e ∙ kept-is (inputs_of (length c)) values right in
+pub opened-call : (c : List ℤ) (values : List ℕ) (kept : ℕ) → Kept (inputs_of (length c)) values kept → OpenedCall c values kept
+opened-call c values kept k =
+    let o = opened-right-means (inputs_of (length c)) values k.right in
+    let e = k.parts in
     let few = o.few in
     let some = o.some in
     let fewer = o.fewer in
@@ -278,7 +253,7 @@ opened-call c values kept h e =
       few = few;
       bits = o.bits;
       parts = omega arith;
-      kept-inputs = sym is;
+      kept-inputs = omega arith;
       most = omega arith;
       inside = subst (λ (n : ℕ). 2 ^ kept ≤ n) (sym power) (pow_mono (omega arith));
     }

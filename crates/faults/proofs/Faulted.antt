@@ -20,10 +20,8 @@ use lib.ListN.{length}
 use borrow.Author.Tests.{le-ltb, lt-ltb, ltb-true, eq-eqb, ne_eqb}
 use Rattle.integer.proofs.Bools.{clash}
 use Rattle.integer.proofs.Firsts.{first-none, first-all, first-at}
-use Rattle.screen.specs.Answers.{answer_number, and_then, refuse_if, minus, inputs_of, screen_of}
+use Rattle.screen.specs.Answers.{Answer, Done, Refused, answer_number, and_then, refuse_if, minus, inputs_of, screen_of}
 use Rattle.transform.specs.Spectrum.{spectrum_of}
-use Rattle.screen.specs.declared.Answer.{Answer}
-use Rattle.screen.specs.declared.Answer.TheVariants.{Done, Refused}
 use Rattle.screen.proofs.Screens.{ready, inputs-power, screen-not-11, first-passed}
 use Rattle.transform.proofs.Spectra.{length-spectrum}
 use Rattle.faults.specs.Faults.{Stuck, bit_of, stuck_of, stuck_answer, stuck_spectrum_of, stuck_rows, replaced, kept_inputs, opened_right, opened_answer, opened_spectrum_of, opened_rows, opened_sum_at, undivided_answer, first_undivided, undivided_at}

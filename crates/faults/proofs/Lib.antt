@@ -1,3 +1,4 @@
+pub mod Calls
 pub mod Arguments
 pub mod ArgumentsMean
 pub mod BridgedRows

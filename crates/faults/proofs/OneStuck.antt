@@ -10,7 +10,7 @@
 use mathlib.Core.Path.{◌≡◌, refl, sym, ap, ap₂, ◌∙◌, subst}
 use mathlib.Core.List.{List, ◌∷◌, ◌++◌, append-nil}
 use mathlib.Core.Bool.{Bool, true, cond}
-use Prim.Native.Nat.{ℕ, suc, ◌+◌, ◌-◌, ◌^◌, ◌≤◌, ◌<◌}
+use Prim.Native.Nat.{ℕ, suc, ◌+◌, ◌-◌, ◌^◌, ◌≤◌, ◌<◌, ◌*◌, ◌%◌}
 use native.Mathlib.Omega.{arith}
 use lib.IntN.{ℤ, pos, ◌+ℤ◌}
 use lib.ListN.{length, get_or, drop, set, length-drop}
@@ -18,9 +18,10 @@ use lib.Seq.{drop-length, drop-cons}
 use borrow.Author.Tests.{eq-eqb, ne_eqb}
 use Rattle.integer.specs.Sum.{signed}
 use Rattle.integer.specs.Tab.{tab, nth, Within}
+use Rattle.integer.proofs.Machine.{bit_is}
 use Rattle.integer.proofs.Tabs.{tab-step, tab-ahead, length_part}
 use Rattle.screen.specs.Answers.{inputs_of}
-use Rattle.screen.proofs.Screens.{inputs-power}
+use Rattle.screen.proofs.Screens.{inputs-most, inputs-power}
 use Rattle.faults.specs.Faults.{Stuck, bit_of, stuck_of, stuck_spectrum_of, rising_inputs}
 use Rattle.faults.specs.Steps.{stuck_once_at, stuck_once}
 use Rattle.faults.proofs.Arguments.{rising-rises, rising-suffix, length-stuck-of}
@@ -31,6 +32,10 @@ pub partner-below : (input n i : ℕ) → 1 ≤ input → input ≤ inputs_of n 
 partner-below input n i first last h e =
     let size = inputs-power n (omega arith) in
     subst (λ (m : ℕ). i + 2 ^ (input - 1) < m) (sym size) (add-below (inputs_of n) (input - 1) i (omega arith) (subst (λ (m : ℕ). i < m) size h) e)
+
+-- the same with the bit as the machine has it
+pub partner-in : (input n i : ℕ) → (1 ≤ input) × (input ≤ inputs_of n) → i < n → bit_of input i ≡ 0 → i + (1 * 2 ^ (input - 1)) % 2 ^ 64 < n
+partner-in input n i r h e = rw (bit_is 64 (input - 1) (omega (arith, r.0, r.1, inputs-most n))) (partner-below input n i r.0 r.1 h e)
 
 module _ (input value : ℕ) (a : List ℤ) where
   abbrev pub stuck-to : ℕ → List ℤ
@@ -50,6 +55,10 @@ module _ (input value : ℕ) (a : List ℤ) where
 
     pub read-ahead : (l : List ℤ) → l ≡ stuck-to i → (j : ℕ) → i ≤ j → nth l j ≡ nth a j
     read-ahead l e j h = ap (λ (k : List ℤ). nth k j) e ∙ tab-ahead a (stuck_once_at input value a) (pos 0) i j h
+
+    -- the number that adds the input, as the machine reads it
+    pub partner-ahead : (l : List ℤ) → l ≡ stuck-to i → (1 ≤ input) × (input ≤ inputs_of (length a)) → nth l (i + (1 * 2 ^ (input - 1)) % 2 ^ 64) ≡ nth a (i + 2 ^ (input - 1))
+    partner-ahead l e r = rw (bit_is 64 (input - 1) (omega (arith, r.0, r.1, inputs-most (length a)))) (read-ahead l e (i + 2 ^ (input - 1)) (omega arith))
 
     pub stick-turn : (l : List ℤ) (z : ℤ) → l ≡ stuck-to i → z ≡ stuck_once_at input value a i → i < length a → set l i z ≡ stuck-to (i + 1)
     stick-turn l z e g h = ap₂ (λ (k : List ℤ) (y : ℤ). set k i y) e g ∙ tab-step a (stuck_once_at input value a) (pos 0) i h

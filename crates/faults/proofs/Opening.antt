@@ -26,10 +26,8 @@ use Rattle.integer.proofs.Sums.{signed-scale}
 use Rattle.integer.proofs.Tabs.{length-tab, get_or-tab, tab-ext, take-tab}
 use Rattle.integer.proofs.Halves.{double}
 use Rattle.transform.specs.Spectrum.{signed_sum, spectrum_of}
-use Rattle.screen.specs.Answers.{refuse_if, minus, inputs_of, outside}
+use Rattle.screen.specs.Answers.{Answer, Done, refuse_if, minus, inputs_of, outside}
 use Rattle.results.specs.Quotients.{quotient_of, quotient_at, quotients_of, unfit, unfit_at, first_unfit, divided_answer}
-use Rattle.screen.specs.declared.Answer.{Answer}
-use Rattle.screen.specs.declared.Answer.TheVariants.{Done}
 use Rattle.screen.proofs.Screens.{small-outside}
 use Rattle.transform.proofs.Spectra.{length-spectrum, nth-spectrum, spectrum-rule}
 use Rattle.faults.specs.Faults.{names, subset_sum, stuck_coefficient_at, stuck_spectrum_of, bit_of, kept_inputs, lines_after, opened_sum_at, opened_at, opened_spectrum_of, undivided_at, first_undivided, undivided_answer, opened_row_number, opened_row, opened_rows}

@@ -4,10 +4,8 @@ use Rattle.std.specs.Prelude.{ℕ, suc, ◌+◌, ◌*◌, ◌-◌, ◌/◌, ◌%
 use Rattle.integer.specs.First.{first_where}
 use Rattle.integer.specs.Sum.{signed}
 use Rattle.integer.specs.Tab.{tab, nth}
-use Rattle.screen.specs.Answers.{and_then, refuse_if, minus, screen_of, inputs_of}
+use Rattle.screen.specs.Answers.{Answer, Done, and_then, refuse_if, minus, screen_of, inputs_of}
 use Rattle.results.specs.Quotients.{quotient_of}
-use Rattle.screen.specs.declared.Answer.{Answer}
-use Rattle.screen.specs.declared.Answer.TheVariants.{Done}
 
 -- a line and the value at which it is stuck
 pub record Stuck : Type 0 where

@@ -2,25 +2,23 @@
 // they cannot take.
 #![tactic(auto)]
 
-ghost use Rattle.std.specs.Prelude.{◌≡◌, true, ◌+◌, ◌^◌, ◌≤◌, ◌<◌, ◌+ℤ◌, nat_abs, length};
+ghost use Rattle.std.specs.Prelude.{◌≡◌, true, leb, IfOk, ◌+◌, ◌^◌, ◌≤◌, ◌<◌, ◌+ℤ◌, nat_abs, length};
+ghost use Rattle.std.specs.List.{list_all};
 ghost use Rattle.integer.specs.Sum.{signed};
 ghost use Rattle.integer.specs.Tab.{Within};
 ghost use Rattle.results.specs.Results.{leaves, written};
-ghost use Rattle.screen.specs.Answers.{inputs_of};
-ghost use Rattle.faults.specs.Faults.{stuck_of, stuck_spectrum_of, rising_inputs, binary, stuck_right, stuck_answer, opened_answer, opened_spectrum_of, undivided_answer};
-ghost use Rattle.faults.specs.Steps.{kept_of, stuck_once};
+ghost use Rattle.screen.specs.Answers.{inputs_of, answer_of};
+ghost use Rattle.faults.specs.Faults.{stuck_of, stuck_spectrum_of, rising_inputs, stuck_right, stuck_answer, opened_answer, opened_spectrum_of, undivided_answer};
+ghost use Rattle.faults.specs.Steps.{Kept, kept_answer, stuck_once};
 
-use screen::Answer;
+use refusals::Refusal;
 
 // x + y, or x - y where the value is not 0.
 fn joined(x: i64, y: i64, value: u32) -> i64
     requires { nat_abs x + nat_abs y < 2 ^ 63 }
     ensures { result ≡ x +ℤ signed value y }
 {
-    if value == 0 {
-        return x + y;
-    }
-    x - y
+    if value == 0 { x + y } else { x - y }
 }
 
 // One input stuck: each label that names it gets 0, every other its coefficient joined with the one that adds the input. Upwards in place:
@@ -32,16 +30,12 @@ fn stick(a: &mut [i64], input: u32, value: u32)
 {
     let shift = input - 1;
     let bit: usize = 1 << shift;
-    let mut i: usize = 0;
-    while i < a.len() {
+    for i in 0..a.len() {
         if (i >> shift) % 2 == 0 {
-            let x = a[i];
-            let y = a[i + bit];
-            a[i] = joined(x, y, value);
+            a[i] = joined(a[i], a[i + bit], value);
         } else {
             a[i] = 0;
         }
-        i += 1;
     }
 }
 
@@ -52,116 +46,82 @@ fn stick_all(a: &mut [i64], lines: &[u32], values: &[u32])
     requires within { Within 2048000 a.old }
     ensures { a.new ≡ stuck_spectrum_of (stuck_of lines.now values.now) a.old }
 {
-    let mut i: usize = lines.len();
-    while 0 < i {
-        i -= 1;
+    for i in (0..lines.len()).rev() {
         stick(a, lines[i], values[i]);
     }
 }
 
 // Whether the lines rise from 1 or more to n or less.
+#[tactic(auto, using(crate::proofs::Arguments::rising_turns))]
 fn rises(lines: &[u32], n: u32) -> bool
     ensures { result ≡ rising_inputs 0 n lines.now }
 {
-    let mut last: u32 = 0;
-    let mut i: usize = 0;
-    while i < lines.len() {
-        let line = lines[i];
-        if line <= last {
-            return false;
-        }
-        if n < line {
+    let mut last = 0;
+    for &line in lines {
+        if line <= last || n < line {
             return false;
         }
         last = line;
-        i += 1;
     }
     true
 }
 
 // Whether each value is 0 or 1.
 fn is_binary(values: &[u32]) -> bool
-    ensures { result ≡ binary values.now }
+    ensures { result ≡ list_all (λ value. leb value 1) values.now }
 {
-    let mut i: usize = 0;
-    while i < values.len() {
-        let value = values[i];
-        if 1 < value {
-            return false;
-        }
-        i += 1;
-    }
-    true
+    values.iter().all(|&value| value <= 1)
 }
 
-// Whether there are one to three rising inputs in 1 to n, and as many values 0 or 1.
-fn stuck_right(n: u32, inputs: &[u32], values: &[u32]) -> bool
-    ensures { result ≡ stuck_right n inputs.now values.now }
+// Whether there are one to three rising inputs of a list of n numbers, and as many values 0 or 1.
+#[tactic(auto, using(crate::proofs::Arguments::stuck_tests), unfolding(crate::specs::Faults::stuck_right, crate::specs::Faults::few_of))]
+fn stuck_right(n: usize, inputs: &[u32], values: &[u32]) -> bool
+    ensures { result ≡ stuck_right (inputs_of n) inputs.now values.now }
 {
-    let k = inputs.len();
-    if k < 1 {
+    let Some(last) = screen::inputs_of(n) else {
         return false;
-    }
-    if 3 < k {
-        return false;
-    }
-    if values.len() != k {
-        return false;
-    }
-    if !is_binary(values) {
-        return false;
-    }
-    rises(inputs, n)
+    };
+    matches!(inputs.len(), 1..=3)
+        && values.len() == inputs.len()
+        && is_binary(values)
+        && rises(inputs, last)
 }
 
-fn stuck_by(coefficients: &[i32], lines: &[u32], values: &[u32], work: &mut [i64], out: &mut [i32])
-    requires lines_len_bound { (length lines.now ≤ 3) × (length values.now ≡ length lines.now) }
-    requires lines_value { rising_inputs 0 (inputs_of (length coefficients.now)) lines.now ≡ true }
-    requires within { Within 2048000 coefficients.now }
-    requires work_len { (length work.old ≡ length coefficients.now) × (length coefficients.now ≤ length out.old) }
-    ensures { out.new ≡ written (stuck_spectrum_of (stuck_of lines.now values.now) coefficients.now) out.old }
-{
-    results::widen(coefficients, work);
-    stick_all(work, lines, values);
-    results::narrow(work, out);
-}
-
-// The spectrum with one to three inputs stuck, written to the front of `out`; or 9, 12, 10, 8.
-pub fn stuck(coefficients: &[i32], inputs: &[u32], values: &[u32], out: &mut [i32]) -> Answer
-    ensures value { result ≡ stuck_answer coefficients.now inputs.now values.now (length out.old) }
-    ensures out_after { out.new ≡ leaves result (stuck_spectrum_of (stuck_of inputs.now values.now) coefficients.now) out.old }
+/// The spectrum with one to three inputs stuck, written to the front of `out`; or 9, 12, 10, 8.
+#[tactic(auto, unfolding(crate::specs::Faults::stuck_answer))]
+pub fn stuck(
+    coefficients: &[i32],
+    inputs: &[u32],
+    values: &[u32],
+    out: &mut [i32],
+) -> Result<(), Refusal>
+    ensures value { answer_of result ≡ stuck_answer coefficients.now inputs.now values.now (length out.old) }
+    ensures out_after { out.new ≡ leaves (answer_of result) (stuck_spectrum_of (stuck_of inputs.now values.now) coefficients.now) out.old }
 {
     let n = coefficients.len();
-    let right = stuck_right(screen::inputs_of(n), inputs, values);
-    match screen::screen(coefficients, -2048000, 2048000, right, out.len(), n) {
-        Answer::Refused { number, place } => Answer::Refused { number, place },
-        Answer::Done => {
-            let mut work = [0i64; 2048];
-            stuck_by(coefficients, inputs, values, &mut work[..n], out);
-            Answer::Done
-        }
-    }
+    let right = stuck_right(n, inputs, values);
+    screen::screen(coefficients, -2048000, 2048000, right, out.len(), n)?;
+    let mut buffer = [0i64; 2048];
+    let work = &mut buffer[..n];
+    results::widen(coefficients, work);
+    stick_all(work, inputs, values);
+    results::narrow(work, out);
+    Ok(())
 }
 
-// The n of n + k inputs, k of them opened; 0 unless k is 1 to 3, n at least 1 and each value 0 or 1.
-fn kept_inputs(inputs: u32, values: &[u32]) -> u32
-    ensures { result ≡ kept_of inputs values.now }
+// The inputs that are kept where the last k of a list of n numbers are opened; or 9, 12 unless k is 1 to 3, an input is left and each value is 0 or 1.
+#[tactic(auto, using(crate::proofs::Arguments::opened_tests), unfolding(crate::specs::Faults::opened_right, crate::specs::Faults::few_of))]
+fn kept_inputs(n: usize, values: &[u32]) -> Result<u32, Refusal>
+    ensures value { answer_of result ≡ kept_answer (inputs_of n) values.now }
+    ensures kept { IfOk result (Kept (inputs_of n) values.now) }
 {
+    let inputs = screen::inputs_of(n).ok_or(Refusal::WrongLength)?;
     let k = values.len();
-    if k < 1 {
-        return 0;
+    if matches!(k, 1..=3) && k < inputs as usize && is_binary(values) {
+        Ok(inputs - k as u32)
+    } else {
+        Err(Refusal::WrongArgument)
     }
-    if 3 < k {
-        return 0;
-    }
-    let opened = k as u32;
-    if inputs <= opened {
-        return 0;
-    }
-    if !is_binary(values) {
-        return 0;
-    }
-    inputs - opened
 }
 
 fn opened_by(
@@ -170,12 +130,12 @@ fn opened_by(
     kept: u32,
     work: &mut [i64],
     out: &mut [i32],
-) -> Answer
-    requires kept_nonzero { (0 < kept) × (kept ≡ kept_of (inputs_of (length coefficients.now)) values.now) }
+) -> Result<(), Refusal>
+    requires kept { Kept (inputs_of (length coefficients.now)) values.now kept }
     requires within { Within 2048000 coefficients.now }
     requires work_len { (length work.old ≡ length coefficients.now) × (2 ^ kept ≤ length out.old) }
-    ensures value { result ≡ undivided_answer coefficients.now values.now }
-    ensures out_after { out.new ≡ leaves result (opened_spectrum_of coefficients.now values.now) out.old }
+    ensures value { answer_of result ≡ undivided_answer coefficients.now values.now }
+    ensures out_after { out.new ≡ leaves (answer_of result) (opened_spectrum_of coefficients.now values.now) out.old }
 {
     results::widen(coefficients, work);
     let lines = [kept + 1, kept + 2, kept + 3];
@@ -186,19 +146,16 @@ fn opened_by(
     results::divided(&work[..due], divisor, -2048000, 2048000, out)
 }
 
-// The spectrum of the n inputs with the last k lines, 1 to 3, opened and set to the values, written to the front of `out`; or 9, 12, 10, 8, 11.
-pub fn opened(coefficients: &[i32], values: &[u32], out: &mut [i32]) -> Answer
-    ensures value { result ≡ opened_answer coefficients.now values.now (length out.old) }
-    ensures out_after { out.new ≡ leaves result (opened_spectrum_of coefficients.now values.now) out.old }
+/// The spectrum of the n inputs with the last k lines, 1 to 3, opened and set to the values, written to the front of `out`; or 9, 12, 10, 8, 11.
+#[tactic(auto, unfolding(crate::specs::Faults::opened_answer))]
+pub fn opened(coefficients: &[i32], values: &[u32], out: &mut [i32]) -> Result<(), Refusal>
+    ensures value { answer_of result ≡ opened_answer coefficients.now values.now (length out.old) }
+    ensures out_after { out.new ≡ leaves (answer_of result) (opened_spectrum_of coefficients.now values.now) out.old }
 {
     let n = coefficients.len();
-    let kept = kept_inputs(screen::inputs_of(n), values);
-    let due: usize = 1 << kept;
-    match screen::screen(coefficients, -2048000, 2048000, 0 < kept, out.len(), due) {
-        Answer::Refused { number, place } => Answer::Refused { number, place },
-        Answer::Done => {
-            let mut work = [0i64; 2048];
-            opened_by(coefficients, values, kept, &mut work[..n], out)
-        }
-    }
+    let kept = kept_inputs(n, values)?;
+    let due = 1 << kept;
+    screen::screen(coefficients, -2048000, 2048000, true, out.len(), due)?;
+    let mut buffer = [0i64; 2048];
+    opened_by(coefficients, values, kept, &mut buffer[..n], out)
 }

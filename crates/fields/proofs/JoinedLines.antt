@@ -16,8 +16,7 @@ use lib.IntN.{pos}
 use lib.ListN.{length}
 use borrow.Author.Tests.{eqb-true}
 use Rattle.text.specs.Text.{comma, line_end, after, field_of, field_count, same_bytes, number_of}
-use Rattle.text.specs.declared.Number.{Number}
-use Rattle.text.specs.declared.Number.TheVariants.{Value, Bad}
+use Rattle.std.specs.Prelude.{Option, Some, None}
 use Rattle.integer.proofs.Bools.{both, clash}
 use Rattle.text.proofs.Decimals.{number-le}
 use Rattle.text.proofs.Parts.{only-field, first-separated}
@@ -39,9 +38,9 @@ unfolding value_at
 values-small l k zero = tt
 values-small l k (suc count) = (small (number_of (field_of l k)) refl, values-small l (suc k) count)
   where
-    small : (n : Number) → number_of (field_of l k) ≡ n → number_value n < 10000
-    small (Value v) e = omega (arith, number-le (field_of l k) v e)
-    small Bad e = omega arith
+    small : (n : Option ℕ) → number_of (field_of l k) ≡ n → number_value n < 10000
+    small (Some v) e = omega (arith, number-le (field_of l k) v e)
+    small None e = omega arith
 
 pub values-count : (l : List ℕ) (k count : ℕ) → length (values_from l k count) ≡ count
 values-count l k zero = refl
@@ -52,9 +51,9 @@ field-written : (l : List ℕ) (k : ℕ) → is_number (number_of (field_of l k)
 unfolding value_at
 field-written l k e = go (number_of (field_of l k)) refl e
   where
-    go : (n : Number) → number_of (field_of l k) ≡ n → is_number n ≡ true → field_of l k ≡ integer_of (pos (number_value n))
-    go (Value v) q h = number-only (field_of l k) v q ∙ sym (natural-written v)
-    go Bad q h = clash (sym h)
+    go : (n : Option ℕ) → number_of (field_of l k) ≡ n → is_number n ≡ true → field_of l k ≡ integer_of (pos (number_value n))
+    go (Some v) q h = number-only (field_of l k) v q ∙ sym (natural-written v)
+    go None q h = clash (sym h)
 
 -- the fields after the first comma
 module _ (l : List ℕ) where

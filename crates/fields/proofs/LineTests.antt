@@ -1,44 +1,33 @@
--- What the code that reads one line shows:
---   passes, fails                             what a test `if !r` shows of the test that r is
---   value-good, value-bad                     the number in a field, which is at most 9999, and 0 where there is none
---   numbers-bad, numbers-step, numbers-end    what one turn of the loop over the fields from k to before `to` shows
-use mathlib.Core.Path.{◌≡◌, sym, ◌∙◌}
-use mathlib.Core.Bool.{Bool, true, false, not}
+-- What the code that reads one line finds:
+--   unwrapped, value_small    the number in a field, 0 where there is none, which is at most 9999
+--   numbers_all               whether all fields of a range are numbers
+use mathlib.Core.Path.{◌≡◌, refl}
 use mathlib.Core.List.{List}
-use Prim.Native.Nat.{ℕ, suc, ◌+◌, ◌-◌, ◌<◌, ◌≤◌}
+use Prim.Native.Nat.{ℕ, zero, suc, ◌≤◌}
 use native.Mathlib.Numerals.{add-one}
-use native.Mathlib.Omega.{arith}
 use lib.Dec.{lit≤}
-use borrow.Author.Tests.{not-true, not-false}
+use Rattle.std.specs.Option.{unwrap_or}
+use Rattle.std.specs.List.{list_all, range_with_len}
 use Rattle.text.specs.Text.{field_of, number_of}
-use Rattle.text.specs.declared.Number.TheVariants.{Value, Bad}
+use Rattle.std.specs.Prelude.{Option, Some, None}
 use Rattle.text.proofs.Decimals.{number-le}
-use Rattle.fields.specs.Fields.{is_number, value_at, numbers_from}
+use Rattle.fields.specs.Fields.{is_number, number_value, value_at, numbers_from}
 
-pub passes : {r t : Bool} → r ≡ t → not r ≡ false → t ≡ true
-passes {r} e n = sym e ∙ not-false r n
+pub value_small : (l : List ℕ) (k : ℕ) → value_at l k ≤ 9999
+unfolding value_at
+value_small l k = go (number_of (field_of l k)) refl
+  where
+    go : (n : Option ℕ) → number_of (field_of l k) ≡ n → number_value n ≤ 9999
+    go (Some v) e = number-le (field_of l k) v e
+    go None e = lit≤ tt
 
-pub fails : {r t : Bool} → r ≡ t → not r ≡ true → t ≡ false
-fails {r} e n = sym e ∙ not-true r n
+pub unwrapped : (n : Option ℕ) → unwrap_or n 0 ≡ number_value n
+unwrapped (Some v) = refl
+unwrapped None = refl
 
-module _ (l : List ℕ) (k : ℕ) where
-  pub value-good : (v : ℕ) → number_of (field_of l k) ≡ Value v → (v ≡ value_at l k) × (v ≤ 9999)
-  unfolding value_at
-  value-good v e = (rw e, number-le (field_of l k) v e)
+pub ruleset values = (unwrapped, value_small)
 
-  pub value-bad : number_of (field_of l k) ≡ Bad → (0 ≡ value_at l k) × (0 ≤ 9999)
-  unfolding value_at
-  value-bad e = (rw e, lit≤ tt)
-
-module _ (l : List ℕ) (to k : ℕ) where
-  pub numbers-bad : k < to → is_number (number_of (field_of l k)) ≡ false → numbers_from l k (to - k) ≡ false
-  unfolding numbers_from
-  numbers-bad h e = let z : to - k ≡ suc (to - (k + 1)) = omega arith in rw (z, e)
-
-  pub numbers-step : k < to → is_number (number_of (field_of l k)) ≡ true → numbers_from l k (to - k) ≡ numbers_from l (k + 1) (to - (k + 1))
-  unfolding numbers_from
-  numbers-step h e = let z : to - k ≡ suc (to - (k + 1)) = omega arith in rw (z, e, add-one)
-
-  pub numbers-end : to ≤ k → numbers_from l k (to - k) ≡ true
-  unfolding numbers_from
-  numbers-end h = let z : to - k ≡ 0 = omega arith in rw z
+pub numbers_all : (l : List ℕ) (k count : ℕ) → list_all (λ i. is_number (number_of (field_of l i))) (range_with_len k count) ≡ numbers_from l k count
+unfolding numbers_from
+numbers_all l k zero = refl
+numbers_all l k (suc count) = rw (add-one, numbers_all l (suc k) count)

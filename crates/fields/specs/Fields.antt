@@ -5,16 +5,15 @@
 use Rattle.std.specs.Prelude.{ℕ, zero, suc, ◌-◌, ◌≤◌, Bool, true, false, ◌&&◌, List, [], ◌∷◌, ◌++◌, map, ◌⊎◌, ◌≡◌, eqb, leb, pos}
 use Rattle.text.specs.Text.{field_of, field_count, same_bytes, number_of}
 use Rattle.writing.specs.Writing.{numbers_of}
-use Rattle.text.specs.declared.Number.{Number}
-use Rattle.text.specs.declared.Number.TheVariants.{Value, Bad}
+use Rattle.std.specs.Prelude.{Option, Some, None}
 
-abbrev pub is_number : Number → Bool
-is_number (Value v) = true
-is_number Bad = false
+abbrev pub is_number : Option ℕ → Bool
+is_number (Some v) = true
+is_number None = false
 
-abbrev pub number_value : Number → ℕ
-number_value (Value v) = v
-number_value Bad = 0
+abbrev pub number_value : Option ℕ → ℕ
+number_value (Some v) = v
+number_value None = 0
 
 unfoldable pub value_at : List ℕ → ℕ → ℕ
 value_at l k = number_value (number_of (field_of l k))

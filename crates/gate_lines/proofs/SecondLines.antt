@@ -1,5 +1,5 @@
 -- How a gate's second line and the number of its fields are tested, by its kind:
---   second-read, fields_read    of every kind but `not`
+--   second-read                 a second line of every kind but `not`
 --   fields-some, fields-right   which numbers of fields pass
 use mathlib.Core.Bool.{true}
 use mathlib.Core.Path.{◌≡◌, refl, subst}
@@ -12,7 +12,6 @@ use Rattle.fields.specs.Fields.{in_range}
 use Rattle.fields.proofs.PlainLines.{range, in-range}
 use Rattle.gate_lines.specs.GateLines.{fields_fit, second_fits}
 
--- the arms for every kind but `not`
 pub second-read : (kind : Kind) (b : ℕ) → (kind ≡ Not → ⊥) → in_range b 1 56 ≡ second_fits kind b
 unfolding second_fits
 second-read And b h = refl
@@ -22,16 +21,6 @@ second-read Nor b h = refl
 second-read Xor b h = refl
 second-read Xnor b h = refl
 second-read Not b h = absurd (h refl)
-
-pub fields_read : (kind : Kind) (n : ℕ) → (kind ≡ Not → ⊥) → in_range n 4 6 ≡ fields_fit kind n
-unfolding fields_fit
-fields_read And n h = refl
-fields_read Or n h = refl
-fields_read Nand n h = refl
-fields_read Nor n h = refl
-fields_read Xor n h = refl
-fields_read Xnor n h = refl
-fields_read Not n h = absurd (h refl)
 
 pub fields-some : (kind : Kind) (n : ℕ) → fields_fit kind n ≡ true → (4 ≤ n) × (n ≤ 6) × (kind ≡ Not → n ≡ 4)
 unfolding fields_fit

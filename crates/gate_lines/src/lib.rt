@@ -1,15 +1,16 @@
-// The line of a gate: what it says, with the number by which it is refused, or 0. What a gate computes is the business of other crates.
+// The line of a gate: what it says, or the flaw by which it is refused. What a gate computes is the business of other crates.
 //
-// Its numbers are read once, all its tests are made on them, and the first that fails gives the number. What it says counts only where all pass.
+// Its tests are made in document 01's order, and the first that fails gives the flaw.
 #![tactic(auto)]
 
-ghost use Rattle.std.specs.Prelude.{◌&&◌, ◌≡◌};
+ghost use Rattle.std.specs.Prelude.{◌&&◌, ◌≡◌, true, ltb, ◌≤◌, ◌<◌, MatchOption};
 ghost use Rattle.text.specs.Text.{field_count};
-ghost use Rattle.fields.specs.Fields.{is_line, value_at};
-ghost use Rattle.gate_lines.specs.GateLines.{gate_word, fields_fit, second_fits, added_fits, gate_refusal, gate_of};
+ghost use Rattle.fields.specs.Fields.{in_range, is_line, value_at};
+ghost use Rattle.refusals.specs.Refusals.{Says};
+ghost use Rattle.gate_lines.specs.GateLines.{gate_word, fields_fit, second_fits, gate_refusal, gate_of};
 
-use fields::number_unless;
 use kinds::Kind;
+use refusals::Flaw;
 
 // A gate and the lines that it reads: A, then B, C and D up to the first 0. `b` is 0 for `not`, `c` and `d` are 0 where there is no third or fourth line.
 #[derive(Clone, Copy)]
@@ -21,44 +22,63 @@ pub struct Gate {
     pub d: u16,
 }
 
-#[derive(Clone, Copy)]
-pub struct GateLine {
-    pub number: u32,
-    pub gate: Gate,
+impl Gate {
+    // What is read past the last gate.
+    pub const NONE: Gate = Gate {
+        kind: Kind::And,
+        a: 0,
+        b: 0,
+        c: 0,
+        d: 0,
+    };
+
+    // Whether each line that it reads is below that one.
+    fn reads_below(self, own: usize) -> bool
+        ensures { result ≡ (((ltb self.a own && ltb self.b own) && ltb self.c own) && ltb self.d own) }
+    {
+        (self.a as usize) < own
+            && (self.b as usize) < own
+            && (self.c as usize) < own
+            && (self.d as usize) < own
+    }
 }
 
 // Whether a gate of that kind may have so many fields, its word and its kind among them.
+#[tactic(auto, unfolding(crate::specs::GateLines::fields_fit, fields::specs::Fields::in_range))]
 fn has_fields(kind: Kind, fields: usize) -> bool
     ensures { result ≡ fields_fit kind fields }
 {
     match kind {
         Kind::Not => fields == 4,
-        _ => (4 <= fields) & (fields <= 6),
+        _ => matches!(fields, 4..=6),
     }
 }
 
 // Whether that is so, and the line, which has so many, is one of a gate.
+#[tactic(auto, unfolding(fields::specs::Fields::is_line))]
 fn is_gate(line: &[u8], kind: Kind, fields: usize) -> bool
     requires { fields ≡ field_count line.now }
     ensures { result ≡ (fields_fit kind fields && is_line line.now gate_word 2 fields) }
 {
-    if !has_fields(kind, fields) {
-        return false;
-    }
-    text::same(text::field(line, 0), b"gate") & fields::numbers(line, 2, fields)
+    has_fields(kind, fields)
+        && text::same(text::field(line, 0), b"gate")
+        && fields::numbers(line, 2, fields)
 }
 
 // The number in field k of a line of so many fields, which is not looked for where there is none.
-fn added_value(line: &[u8], k: usize, fields: usize) -> u16
+#[tactic(auto, using(fields::proofs::PlainLines::absent))]
+fn added_line(line: &[u8], k: usize, fields: usize) -> Option<u16>
     requires { fields ≡ field_count line.now }
-    ensures { result ≡ value_at line.now k }
+    ensures { MatchOption result ((fields ≤ k) × (value_at line.now k ≡ 0)) (λ n. (k < fields) × (n ≡ value_at line.now k)) }
 {
-    if fields <= k {
-        return 0;
+    if k < fields {
+        Some(fields::value_at(line, k))
+    } else {
+        None
     }
-    fields::value_at(line, k)
 }
 
+#[tactic(auto, unfolding(crate::specs::GateLines::second_fits))]
 fn second_in_range(kind: Kind, b: u16) -> bool
     ensures { result ≡ second_fits kind b }
 {
@@ -68,34 +88,37 @@ fn second_in_range(kind: Kind, b: u16) -> bool
     }
 }
 
-fn added_in_range(absent: bool, line: u16) -> bool
-    ensures { result ≡ added_fits absent line }
+fn added_in_range(line: Option<u16>) -> bool
+    ensures { MatchOption line (result ≡ true) (λ n. result ≡ in_range n 1 56) }
 {
-    absent | fields::in_range(line, 1, 56)
+    line.is_none_or(|n| fields::in_range(n, 1, 56))
 }
 
 // The line of the gate that drives line `own`.
-pub fn gate_line(own: usize, line: &[u8]) -> GateLine
-    ensures { (result.number ≡ gate_refusal own line.now) × (result.gate ≡ gate_of line.now) }
+#[tactic(auto, unfolding(crate::specs::GateLines::gate_refusal, crate::specs::GateLines::is_gate, crate::specs::GateLines::gate_fits, crate::specs::GateLines::added_fits, crate::specs::GateLines::reads_below, crate::specs::GateLines::gate_of, fields::specs::Fields::fits, fields::specs::Fields::unless))]
+pub fn gate_line(own: usize, line: &[u8]) -> Result<Gate, Flaw>
+    ensures { Says result (gate_refusal own line.now) (gate_of line.now) }
 {
     let fields = text::fields(line);
     let word = text::field(line, 1);
-    let kind = kinds::kind_of(word);
+    let kind = kinds::kind_of(word).ok_or(Flaw::Malformed)?;
+    Flaw::Malformed.unless(is_gate(line, kind, fields))?;
     let a = fields::value_at(line, 2);
     let b = fields::value_at(line, 3);
-    let c = added_value(line, 4, fields);
-    let d = added_value(line, 5, fields);
-    let formed = is_gate(line, kind, fields) & kinds::is_kind(word);
+    let c = added_line(line, 4, fields);
+    let d = added_line(line, 5, fields);
     let fit = fields::in_range(a, 1, 56)
-        & second_in_range(kind, b)
-        & added_in_range(fields <= 4, c)
-        & added_in_range(fields <= 5, d);
-    let below = ((a as usize) < own)
-        & ((b as usize) < own)
-        & ((c as usize) < own)
-        & ((d as usize) < own);
-    GateLine {
-        number: number_unless(formed, 2, number_unless(fit, 3, number_unless(below, 4, 0))),
-        gate: Gate { kind, a, b, c, d },
-    }
+        && second_in_range(kind, b)
+        && added_in_range(c)
+        && added_in_range(d);
+    Flaw::OutOfRange.unless(fit)?;
+    let gate = Gate {
+        kind,
+        a,
+        b,
+        c: c.unwrap_or(0),
+        d: d.unwrap_or(0),
+    };
+    Flaw::ReadsAhead.unless(gate.reads_below(own))?;
+    Ok(gate)
 }

@@ -1,7 +1,9 @@
 // The kinds of gates and the words that they are written as. What a gate computes is the business of other crates.
 #![tactic(auto)]
 
-ghost use Rattle.std.specs.Prelude.{◌≡◌};
+ghost use Rattle.std.specs.Prelude.{◌≡◌, is_some};
+ghost use Rattle.std.specs.Option.{unwrap_or};
+ghost use Rattle.kinds.specs.declared.Kind.TheVariants.{Not};
 ghost use Rattle.kinds.specs.Kinds.{is_kind, kind_of};
 
 #[derive(Clone, Copy)]
@@ -15,39 +17,27 @@ pub enum Kind {
     Not,
 }
 
-pub fn is_kind(word: &[u8]) -> bool
-    ensures { result ≡ is_kind word.now }
-{
-    text::same(word, b"and")
-        | text::same(word, b"or")
-        | text::same(word, b"nand")
-        | text::same(word, b"nor")
-        | text::same(word, b"xor")
-        | text::same(word, b"xnor")
-        | text::same(word, b"not")
-}
-
-// The kind of that word; `not` where it is no kind.
-pub fn kind_of(word: &[u8]) -> Kind
-    ensures { result ≡ kind_of word.now }
+// The kind of that word. The definition `kind_of` counts a word of none as `not`.
+#[tactic(auto, unfolding(crate::specs::Kinds::is_kind, crate::specs::Kinds::kind_of))]
+pub fn kind_of(word: &[u8]) -> Option<Kind>
+    ensures known { is_some result ≡ is_kind word.now }
+    ensures value { unwrap_or result Not ≡ kind_of word.now }
 {
     if text::same(word, b"and") {
-        return Kind::And;
+        Some(Kind::And)
+    } else if text::same(word, b"or") {
+        Some(Kind::Or)
+    } else if text::same(word, b"nand") {
+        Some(Kind::Nand)
+    } else if text::same(word, b"nor") {
+        Some(Kind::Nor)
+    } else if text::same(word, b"xor") {
+        Some(Kind::Xor)
+    } else if text::same(word, b"xnor") {
+        Some(Kind::Xnor)
+    } else if text::same(word, b"not") {
+        Some(Kind::Not)
+    } else {
+        None
     }
-    if text::same(word, b"or") {
-        return Kind::Or;
-    }
-    if text::same(word, b"nand") {
-        return Kind::Nand;
-    }
-    if text::same(word, b"nor") {
-        return Kind::Nor;
-    }
-    if text::same(word, b"xor") {
-        return Kind::Xor;
-    }
-    if text::same(word, b"xnor") {
-        return Kind::Xnor;
-    }
-    Kind::Not
 }

@@ -4,15 +4,22 @@
 use cases::heads::Call;
 use cases::lines;
 use cases::numbers::argument;
-use screen::Answer;
-use walsh::Found;
+use refusals::Refusal;
 
 pub fn coefficient_holds(list: &[i32], label: u32, due: &[u8]) -> bool {
     match walsh::coefficient(list, label) {
-        Found::Coefficient(value) => lines::are_due(&[0, 0, value], due),
-        Found::Refused { number, place } => {
-            lines::are_due(&[lines::narrow_word(number), lines::narrow(place), 0], due)
-        }
+        Ok(value) => lines::are_due(&[0, 0, value], due),
+        Err(r) => lines::are_due(
+            &[lines::narrow_word(r.number()), lines::narrow(r.place()), 0],
+            due,
+        ),
+    }
+}
+
+fn numbers_of(a: Result<(), Refusal>) -> [i32; 2] {
+    match a {
+        Ok(()) => [0, 0],
+        Err(r) => [lines::narrow_word(r.number()), lines::narrow(r.place())],
     }
 }
 
@@ -23,7 +30,7 @@ fn answer(
     first: &[u32],
     second: &[u32],
     out: &mut [i32],
-) -> Answer {
+) -> Result<(), Refusal> {
     match call {
         Call::Spectrum => walsh::spectrum(list, out),
         Call::Rows => walsh::rows(list, out),
@@ -31,13 +38,6 @@ fn answer(
         Call::Opened => faults::opened(list, first, out),
         Call::Bridged => bridges::bridged(list, argument(first, 0), argument(first, 1), out),
         _ => circuit::circuit_spectrum(text, argument(first, 0), out),
-    }
-}
-
-fn numbers_of(a: Answer) -> [i32; 2] {
-    match a {
-        Answer::Done => [0, 0],
-        Answer::Refused { number, place } => [lines::narrow_word(number), lines::narrow(place)],
     }
 }
 

@@ -14,7 +14,7 @@ use native.Mathlib.Nat.{zero-mul, one-mul, add-mul, mul_assoc, mul_comm, pow-suc
 use native.Mathlib.Numerals.{add-one}
 use native.Mathlib.Omega.{arith}
 use lib.Dec.{eqb}
-use lib.Pow.{pow_mono, shr-shr, split}
+use lib.Pow.{shr-shr, split}
 use borrow.Author.Tests.{eq-eqb, ne_eqb, eqb-true, eqb-false}
 use Rattle.integer.proofs.Machine.{bit_is}
 use Rattle.faults.specs.Faults.{Stuck, stuck_of, replaced, replaced_all, both_of, bridged_row}
@@ -145,17 +145,8 @@ module _ (s : Pair) (x : ℕ) (some : s.line ≡ 0 → ⊥) (last : s.line ≤ 8
   unit-is : unit ≡ 2 ^ (s.line - 1)
   unit-is = bit_is 64 (s.line - 1) (omega arith)
 
-  pub unit-small : unit ≤ 128
-  unit-small = subst (λ (n : ℕ). n ≤ 128) (sym unit-is) (pow_mono {j = 7} (omega arith))
-
   parts : x ≡ x / 2 ^ suc (s.line - 1) * 2 ^ suc (s.line - 1) + digit (s.line - 1) x * unit + x % 2 ^ (s.line - 1)
   parts = own-digit (s.line - 1) x ∙ ap (λ (n : ℕ). x / 2 ^ suc (s.line - 1) * 2 ^ suc (s.line - 1) + digit (s.line - 1) x * n + x % 2 ^ (s.line - 1)) (sym unit-is)
-
-  pub input-inside : digit (s.line - 1) x * unit ≤ x
-  input-inside = inside _ _ _ parts
-    where
-      inside : (high own low : ℕ) → x ≡ high + own + low → own ≤ x
-      inside high own low e = omega arith
 
   by_value : (v : ℕ) → pair_value s ≡ v → pair_row s x ≡ put (s.line - 1) v x
   by_value v e =

@@ -5,13 +5,14 @@
 use mathlib.Core.Path.{◌≡◌, refl, sym, ap, ap₂, ◌∙◌, subst}
 use mathlib.Core.Bool.{Bool, true, false, xor, ◌&&◌, ◌||◌}
 use mathlib.Core.Logic.{◌⊎◌, inl, inr}
+use mathlib.Core.List.{List}
 use Prim.Native.Nat.{ℕ, ◌-◌, ◌^◌, ◌<◌}
 use native.Mathlib.Nat.{mod-eq_of_lt}
 use native.Mathlib.Omega.{arith}
 use lib.Bits.{bit_and, bit_or, bit_xor, and_mask}
 use lib.Dec.{eqb}
 use lib.IntN.{ℤ, pos}
-use lib.ListN.{get_or}
+use lib.ListN.{length, get_or}
 use borrow.Author.Tests.{eqb-true, eqb-false}
 use Rattle.integer.specs.Mask.{bit}
 use Rattle.integer.specs.Tab.{tab}
@@ -22,14 +23,14 @@ use Rattle.faults.proofs.Sticking.{replaced-put}
 use Rattle.statements.specs.declared.Bridge.{Bridge}
 use Rattle.statements.specs.declared.Fault.{Fault}
 use Rattle.statements.specs.declared.Pair.{Pair}
-use Rattle.tables.specs.Tables.{truth_table_of, TableSized}
-use Rattle.tables.specs.declared.Table.{Table}
+use Rattle.tables.specs.Tables.{TruthTable}
+use Rattle.tables.specs.TableWellFormed.{TableRight}
 use Rattle.lookup.specs.StuckPairs.{pair_value, OfInputs}
 use Rattle.lookup.specs.TableRows.{stuck_row_number, bridge_row, fault_row, table_row, table_rows}
 use Rattle.lookup.specs.Steps.{pair_row}
 use Rattle.lookup.proofs.StuckPairs.{bit-small}
-use Rattle.lookup.proofs.PairRows.{pair-none, pair-some, stuck-row-steps, stuck-row-below, bridge-row-below}
-use Rattle.lookup.proofs.RowsOfTables.{table-room, row-looked-up}
+use Rattle.lookup.proofs.PairRows.{pair-none, pair-some, stuck-row-steps, stuck-row-below, bridge-row-below, fault-row-below}
+use Rattle.lookup.proofs.RowsOfTables.{table-room}
 
 -- bit i is kept, or the same whatever the row
 abbrev pub Settled : (ℕ → ℕ) → ℕ → Type 0
@@ -105,29 +106,28 @@ stuck-row-masked f x small = masked (stuck_row_number f) (stuck-row-settled f) 2
 -- The code's masks.
 
 -- the mark that the code looks up by row y
-abbrev pub masked_mark : Table → ℕ → ℕ → ℕ → ℤ
-masked_mark t set kept y = pos (get_or t.marks (bit_or (bit_and y kept) set) 0)
+abbrev pub masked_mark : List ℕ → ℕ → ℕ → ℕ → ℤ
+masked_mark marks set kept y = pos (get_or marks (bit_or (bit_and y kept) set) 0)
 
 -- what it writes in row x
-abbrev pub masked_row : Table → Bridge → ℕ → ℕ → ℕ → ℤ
-masked_row t b set kept x = masked_mark t set kept (bridge_row b x)
+abbrev pub masked_row : List ℕ → Bridge → ℕ → ℕ → ℕ → ℤ
+masked_row marks b set kept x = masked_mark marks set kept (bridge_row b x)
 
 module _ (f : Fault) (set all : ℕ) (e : set ≡ stuck_row_number f 0) (g : all ≡ stuck_row_number f 255) where
   by-masks : (y : ℕ) → y < 256 → bit_or (bit_and y (bit_xor all set)) set ≡ stuck_row_number f y
   by-masks y small = ap₂ (λ (a b : ℕ). bit_or (bit_and y (bit_xor a b)) b) g e ∙ stuck-row-masked f y small
 
-  pub masked_below : OfInputs 8 f → (y : ℕ) → y < 256 → bit_or (bit_and y (bit_xor all set)) set < 256
-  masked_below o y small = subst (λ (n : ℕ). n < 256) (sym (by-masks y small)) (stuck-row-below 8 f y o small)
+  module _ (t : TruthTable) (right : TableRight t) (o : OfInputs t.inputs f) where
+    bridged-small : (x : ℕ) → x < 2 ^ t.inputs → bridge_row f.bridge x < 256
+    bridged-small x h = omega (arith, table-room t right, bridge-row-below f.bridge x t.inputs o.bridge-rises o.bridge-high h)
 
-  pub masked-rows : (t : Table) → TableSized t → OfInputs t.head.inputs f
-      → tab (2 ^ t.head.inputs) (masked_row t f.bridge set (bit_xor all set)) ≡ table_rows (truth_table_of t) f
-  unfolding table_rows truth_table_of fault_row
-  masked-rows t sized o =
-      tab-ext (2 ^ t.head.inputs) (masked_row t f.bridge set (bit_xor all set)) (table_row (truth_table_of t) f)
-      (λ x h. ap (λ (n : ℕ). pos (get_or t.marks n 0)) (by-masks (bridge_row f.bridge x) (stays x h)) ∙ row-looked-up t sized f x o h)
-    where
-      stays : (x : ℕ) → x < 2 ^ t.head.inputs → bridge_row f.bridge x < 256
-      stays x h =
-          let room = table-room t sized in
-          let below = bridge-row-below f.bridge x t.head.inputs o.bridge-rises o.bridge-high h in
-          omega arith
+    pub masked_below : (x : ℕ) → x < 2 ^ t.inputs → bit_or (bit_and (bridge_row f.bridge x) (bit_xor all set)) set < length t.marks
+    unfolding fault_row
+    masked_below x h =
+        subst (λ (n : ℕ). n < length t.marks) (sym (by-masks (bridge_row f.bridge x) (bridged-small x h))) (omega (arith, fault-row-below t.inputs f x o h, right.marks-all))
+
+    pub masked-rows : tab (2 ^ t.inputs) (masked_row t.marks f.bridge set (bit_xor all set)) ≡ table_rows t f
+    unfolding table_rows table_row fault_row
+    masked-rows =
+        tab-ext (2 ^ t.inputs) (masked_row t.marks f.bridge set (bit_xor all set)) (table_row t f)
+        (λ x h. ap (λ (n : ℕ). pos (get_or t.marks n 0)) (by-masks (bridge_row f.bridge x) (bridged-small x h)))

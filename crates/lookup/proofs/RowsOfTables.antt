@@ -6,7 +6,7 @@
 --   stuck-table-rows                        under stuck inputs the rows are the sound ones with those replaced, so the formulas over stuck inputs hold
 --   bridged-table-rows                      under a bridge they are the sound ones with both its inputs replaced by their AND
 --   table-fault-of-inputs                   every fault of a right table names inputs only
---   row-looked-up                           what the code looks up, in an array that is longer than the marks
+--   table-room, any-table-fault             there are at most 256 rows, and a fault of the table's inputs is one of 8 inputs
 use mathlib.Core.Path.{◌≡◌, refl, sym, ap, ◌∙◌, subst}
 use mathlib.Core.Logic.{inr}
 use Prim.Native.Nat.{ℕ, zero, suc, ◌^◌, ◌≤◌, ◌<◌, zero-le}
@@ -27,9 +27,8 @@ use Rattle.sections.proofs.FaultsRight.{free-line}
 use Rattle.statements.specs.Items.{no_bridge, sound}
 use Rattle.statements.specs.declared.Bridge.{Bridge}
 use Rattle.statements.specs.declared.Fault.{Fault}
-use Rattle.tables.specs.Tables.{TruthTable, truth_table_of, TableSized, table_fault_at}
+use Rattle.tables.specs.Tables.{TruthTable, table_fault_at}
 use Rattle.tables.specs.TableWellFormed.{TableRight}
-use Rattle.tables.specs.declared.Table.{Table}
 use Rattle.lookup.specs.StuckPairs.{pairs_of, OfInputs}
 use Rattle.lookup.specs.TableRows.{stuck_row_number, bridge_row, fault_row, table_row, table_rows}
 use Rattle.lookup.specs.Steps.{pair_row}
@@ -114,22 +113,18 @@ table-fault-of-inputs t (suc k) right = pick (dec_le (length t.faults) k)
     pick (yes h) = subst (OfInputs t.inputs) (sym (get_or-eq_default t.faults sound h)) (sound-of-inputs t.inputs)
     pick (no h) = fault-of-inputs t.inputs (get_or t.faults k sound) (right.faults-right k (lt_of_not-le h))
 
--- The code's table.
+-- The code's limits.
 
-module _ (t : Table) (sized : TableSized t) where
-  pub table-room : 2 ^ t.head.inputs ≤ 256
-  table-room = pow_mono {j = 8} sized.inputs
+module _ (t : TruthTable) (right : TableRight t) where
+  pub table-room : 2 ^ t.inputs ≤ 256
+  table-room = pow_mono {j = 8} right.inputs-high
 
-  pub any-table-fault : (f : Fault) → OfInputs t.head.inputs f → OfInputs 8 f
+  pub any-table-fault : (f : Fault) → OfInputs t.inputs f → OfInputs 8 f
   any-table-fault f o =
       record {
-        first = le_trans o.first sized.inputs;
-        second = le_trans o.second sized.inputs;
-        third = le_trans o.third sized.inputs;
+        first = le_trans o.first right.inputs-high;
+        second = le_trans o.second right.inputs-high;
+        third = le_trans o.third right.inputs-high;
         bridge-rises = o.bridge-rises;
-        bridge-high = le_trans o.bridge-high sized.inputs;
+        bridge-high = le_trans o.bridge-high right.inputs-high;
       }
-
-  pub row-looked-up : (f : Fault) (x : ℕ) → OfInputs t.head.inputs f → x < 2 ^ t.head.inputs → pos (get_or t.marks (fault_row f x) 0) ≡ table_row (truth_table_of t) f x
-  unfolding table_row truth_table_of
-  row-looked-up f x o h = ap pos (sym (get_or-take (2 ^ t.head.inputs) t.marks (fault_row f x) 0 (fault-row-below t.head.inputs f x o h)))

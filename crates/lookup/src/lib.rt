@@ -1,8 +1,7 @@
 // The rows of a table, sound and under a fault: each is looked up among the marks.
 #![tactic(auto)]
 
-ghost use Rattle.std.specs.Prelude.{◌≡◌, ◌≤◌, ◌<◌, ◌^◌, pos, length};
-ghost use Rattle.tables.specs.Tables.{truth_table_of, TableSized};
+ghost use Rattle.std.specs.Prelude.{◌≡◌, ◌≤◌, ◌<◌, ◌^◌, length};
 ghost use Rattle.lookup.specs.StuckPairs.{OfInputs};
 ghost use Rattle.lookup.specs.TableRows.{stuck_row_number, bridge_row, table_rows};
 ghost use Rattle.lookup.specs.Steps.{pair_row};
@@ -55,25 +54,17 @@ fn bridge_row(b: Bridge, x: usize) -> usize
     pair_row(second, pair_row(first, x))
 }
 
-// A mark as a row's value.
-fn wide(mark: u8) -> i32
-    ensures { result ≡ pos mark }
-{
-    mark as i32
-}
-
 // The rows under the fault, doubled. A stuck input is the same in every row, so two masks replace them all: what is set, and what is kept.
 // The inputs of a bridge differ from row to row.
-pub fn rows(t: Table, f: Fault, out: &mut [i32])
-    requires { TableSized t × OfInputs t.head.inputs f × (length out.old ≡ 2 ^ t.head.inputs) }
-    ensures { out.new ≡ table_rows (truth_table_of t) f }
+pub fn rows(t: &Table, f: Fault, out: &mut [i32])
+    requires { OfInputs t.now.inputs f × (length out.old ≡ 2 ^ t.now.inputs) }
+    ensures { out.new ≡ table_rows t.now f }
 {
+    let marks = t.marks();
     let set = stuck_row(f, 0);
     let kept = stuck_row(f, 255) ^ set;
-    let mut x: usize = 0;
-    while x < out.len() {
+    for (x, value) in out.iter_mut().enumerate() {
         let row = (bridge_row(f.bridge, x) & kept) | set;
-        out[x] = wide(t.marks[row]);
-        x += 1;
+        *value = i32::from(marks[row]);
     }
 }

@@ -1,7 +1,7 @@
 -- What acceptance means:
 --   well-formed      an accepted circuit is within the ranges, its gates read lower lines, its outputs and faults name lines that exist
 --   BodyRead, text-read-through    how an accepted text is read, stage by stage
---   accepted-as, accepted-right    the circuit of the parser's answer
+--   body-well-formed    so is the circuit that the lines after a right first line give
 --   head-fits, gate-right, output-right    what the tests of each line show
 use mathlib.Core.Path.{◌≡◌, refl, sym, ap, ◌∙◌, subst}
 use mathlib.Core.Bool.{Bool, true, false, ◌&&◌, false≢true}
@@ -12,7 +12,8 @@ use native.Mathlib.Decide.{dec_le}
 use native.Mathlib.Omega.{arith}
 use lib.Dec.{leb, ltb, lit≤}
 use lib.ListN.{length}
-use borrow.Author.Tests.{ltb-true, leb-true, eqb-true, eq-eqb, lt-ltb}
+use borrow.Author.Tests.{ltb-true, leb-true, eqb-true, lt-ltb}
+use Rattle.std.specs.Prelude.{Ok}
 use Rattle.text.specs.Text.{before, after, has_byte, line_end, field_of, field_count}
 use Rattle.integer.proofs.Bools.{both}
 use Rattle.statements.specs.Items.{no_output, sound}
@@ -36,23 +37,12 @@ use Rattle.sections.proofs.LinesDue.{text-answered}
 use Rattle.sections.proofs.LinesRead.{lines-said}
 use Rattle.sections.specs.Sections.{Read, items, line_refused, line_refusal}
 use Rattle.sections.specs.FaultLines.{nth_fault_refusal}
-use Rattle.netlist.specs.Circuits.{Netlist, netlist_of}
-use Rattle.netlist.specs.Parsing.{gates_in, outputs_in, faults_in, Parse, accepted, rejected, on_read, end_of, body_of, parse_of, meaning, nth_gate_refusal, nth_output_refusal}
+use Rattle.netlist.specs.Circuits.{Netlist}
+use Rattle.netlist.specs.Heads.{HeadRight}
+use Rattle.netlist.specs.Parsing.{gates_in, outputs_in, faults_in, Parse, accepted, rejected, on_read, end_of, body_of, parse_of, nth_gate_refusal, nth_output_refusal}
 use Rattle.netlist.specs.WellFormed.{OutputRight, WellFormed, top_of}
-use Rattle.netlist.specs.declared.Parsed.{Parsed}
 
 -- one line
-
-pub record HeadRight (h : Head) : Type 0 where
-  pub inputs-low : 1 ≤ h.inputs
-  pub inputs-high : h.inputs ≤ 8
-  pub gates-high : h.gates ≤ 48
-  pub outputs-low : 1 ≤ h.outputs
-  pub outputs-high : h.outputs ≤ 4
-  pub faults-low : 1 ≤ h.faults
-  pub faults-high : h.faults ≤ 32
-  pub cap-low : 1 ≤ h.cap
-  pub cap-high : h.cap ≤ 4
 
 pub head-fits : (l : List ℕ) → head_refusal l ≡ 0 → HeadRight (head_of l)
 unfolding head_refusal head_fits head_of
@@ -186,6 +176,10 @@ body-right h right rest n b =
       faults-right = λ j k. let s = f.0 j k in rw (← same, b.inputs_are, s.is) (fault-right h.inputs top s.line s.passes);
     }
 
+-- what holds of the circuit that the lines after a right first line give
+pub body-well-formed : (h : Head) → HeadRight h → (rest : List ℕ) (n : Netlist) → accepted n ≡ body_of h rest → WellFormed n
+body-well-formed h right rest n e = body-right h right rest n (body-read-through h rest n (sym e))
+
 -- the first line passes, and the lines after it are read
 pub text-read-through : (text : List ℕ) (n : Netlist) → parse_of text ≡ accepted n
     → (line_refusal head_refusal text ≡ 0) × BodyRead (head_of (before line_end text)) (after line_end text) n
@@ -202,12 +196,3 @@ text-read-through text n =
 
 pub well-formed : (text : List ℕ) (n : Netlist) → parse_of text ≡ accepted n → WellFormed n
 well-formed text n e = let t = text-read-through text n e in body-right (head_of (before line_end text)) (head-fits (before line_end text) (unless-passed (has_byte line_end text) 2 _ (lit≤ tt) t.0).1) (after line_end text) n t.1
-
--- of the parser's answer
-module _ (text : List ℕ) (p : Parsed) (means : meaning p ≡ parse_of text) (number : p.number ≡ 0) where
-  pub accepted-as : parse_of text ≡ accepted (netlist_of p.circuit)
-  unfolding meaning
-  accepted-as = sym means ∙ rw (eq-eqb p.number 0 number)
-
-  pub accepted-right : WellFormed (netlist_of p.circuit)
-  accepted-right = well-formed text (netlist_of p.circuit) accepted-as

@@ -1,7 +1,6 @@
 pub mod Acceptance
 pub mod Assembling
 pub mod CircuitLines
-pub mod Counts
 pub mod Refusals
 pub mod CircuitsWritten
 pub mod AcceptedTexts

@@ -10,8 +10,7 @@ use Rattle.statements.specs.declared.Head.{Head}
 use Rattle.statements.specs.declared.Output.{Output}
 use Rattle.sections.specs.Sections.{Read, items, line_refused, line_refusal, lines_of}
 use Rattle.sections.specs.FaultLines.{nth_fault_refusal}
-use Rattle.netlist.specs.Circuits.{Netlist, netlist_of}
-use Rattle.netlist.specs.declared.Parsed.{Parsed}
+use Rattle.netlist.specs.Circuits.{Netlist}
 
 -- "Inputs are lines 1 to N; the j-th gate (from 1) drives line N+j."
 abbrev pub nth_gate_refusal : ℕ → ℕ → List ℕ → ℕ
@@ -63,7 +62,3 @@ parse_of text =
     (cond (eqb (line_refusal head_refusal text) 0)
     (body_of (head_of (before line_end text)) (after line_end text))
     (rejected (line_refusal head_refusal text) 1))
-
--- what the parser's answer means: number 0 where the text is accepted
-unfoldable pub meaning : Parsed → Parse
-meaning p = cond (eqb p.number 0) (accepted (netlist_of p.circuit)) (rejected p.number p.place)

@@ -3,49 +3,74 @@
 
 mod parsing;
 
-ghost use Rattle.std.specs.Prelude.{◌≡◌, ◌≤◌};
-ghost use Rattle.netlist.specs.Circuits.{netlist_of, Sized, fault_at};
+ghost use Rattle.std.specs.Prelude.{◌≡◌, ◌≤◌, length};
+ghost use Rattle.netlist.specs.Circuits.{fault_at};
+ghost use Rattle.netlist.specs.WellFormed.{WellFormed};
 
 use gate_lines::Gate;
 pub use parsing::parse;
-use statements::{Bridge, Fault, Head, Output, Pair};
+use statements::{Fault, Head, Output};
+use std::marker::Model;
 
-// Each array is in use as far as the head says.
-#[derive(Clone, Copy)]
+/// The circuit of an accepted text. In contracts a circuit is its netlist.
+#[derive(Drop)]
 pub struct Circuit {
-    pub head: Head,
-    pub gates: [Gate; 48],
-    pub outputs: [Output; 4],
-    pub faults: [Fault; 32],
+    // each array is in use as far as the head says: there is no heap
+    head: Head,
+    gates: [Gate; 48],
+    outputs: [Output; 4],
+    faults: [Fault; 32],
 }
 
-// Number 0 where the text is accepted. The struct stands for an enum, which cannot hold arrays.
-#[derive(Clone, Copy)]
-pub struct Parsed {
-    pub number: u32,
-    pub place: usize,
-    pub circuit: Circuit,
+impl Model for Circuit {
+    ghost use Rattle.netlist.specs.Circuits.{Netlist};
+
+    ghost Value = { Netlist };
+
+    ghost use Rattle.netlist.specs.CircuitArrays.{netlist_of, Accepted};
+
+    ghost view = { netlist_of };
+
+    ghost invariant = { Accepted };
 }
 
-// Fault `number` of the circuit, from 1; the fault that names no line for 0.
-pub fn fault_at(c: Circuit, number: usize) -> Fault
-    requires { Sized c × (number ≤ c.head.faults) }
-    ensures { result ≡ fault_at (netlist_of c) number }
-{
-    if number == 0 {
-        let free = Pair {
-            line: 0,
-            value: false,
-        };
-        return Fault {
-            first: free,
-            second: free,
-            third: free,
-            bridge: Bridge {
-                first: 0,
-                second: 0,
-            },
-        };
+impl Circuit {
+    pub fn inputs(&self) -> usize
+        ensures value { result ≡ self.now.inputs }
+        ensures well_formed { WellFormed self.now }
+    {
+        self.head.inputs
     }
-    c.faults[number - 1]
+
+    pub fn cap(&self) -> usize
+        ensures { result ≡ self.now.cap }
+    {
+        self.head.cap
+    }
+
+    pub fn gates(&self) -> &[Gate]
+        ensures { result.now ≡ self.now.gates }
+    {
+        &self.gates[..self.head.gates]
+    }
+
+    pub fn outputs(&self) -> &[Output]
+        ensures { result.now ≡ self.now.outputs }
+    {
+        &self.outputs[..self.head.outputs]
+    }
+
+    pub fn faults(&self) -> &[Fault]
+        ensures { result.now ≡ self.now.faults }
+    {
+        &self.faults[..self.head.faults]
+    }
+
+    /// Fault `number` of the circuit, from 1; the fault that names no line for 0.
+    pub fn fault(&self, number: usize) -> Fault
+        requires { number ≤ length self.now.faults }
+        ensures { result ≡ fault_at self.now number }
+    {
+        sections::fault_at(self.faults(), number)
+    }
 }

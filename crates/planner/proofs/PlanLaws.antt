@@ -4,7 +4,7 @@
 --   marked-none, marked-one-more, marked-silent, marked_all    a loop that marks: at 0, one fault more, at a silent fault, at the end
 --   first-silent-count     where the first silent fault is not below the number of faults, it is that number
 --   AllMarked, may-find    no fault is silent and all are marked, and what the search requires
---   verdict-silent, verdict-none, verdict-found    the verdict's numbers: 13, 14, the labels
+--   verdict-silent, verdict-chosen    the verdict's numbers: 13, and 14 or the labels
 --   kept-four              the labels of a plan, at the front of four
 --   verdict-text, verdict-room, verdict-served    the call's verdict, by what the text describes
 --   front-labels           the front of the labels that the order gives
@@ -25,13 +25,16 @@ use borrow.Author.Count.{below_more}
 use borrow.Author.Tests.{lt-ltb, le-ltb}
 use Rattle.cover.specs.Cover.{fault_rows, silent, silent_at, first_silent, signature_of}
 use Rattle.cover.specs.Order.{labels_below}
+use Rattle.std.specs.Prelude.{Option as Found, None, Some}
 use Rattle.search.specs.Sets.{plan_of, four_of}
 use Rattle.search.specs.Steps.{clears, set_of, set_at}
 use Rattle.cover.specs.Steps.{marked, masks_of}
 use Rattle.search.specs.declared.LabelSet.{LabelSet}
+use Rattle.std.specs.Option.{ok_or}
+use Rattle.refusals.specs.declared.Refusal.TheVariants.{NoSet}
 use Rattle.cover.proofs.LabelOrder.{labels-count, labels-below}
 use Rattle.cover.proofs.Marking.{no-masks, marked_more, length-masks, masks-below}
-use Rattle.cover.proofs.Signatures.{found-is, signature-found}
+use Rattle.cover.proofs.Signatures.{found-is}
 use Rattle.integer.specs.Tab.{Within}
 use Rattle.integer.specs.Counting.{up_to}
 use Rattle.integer.specs.ListTests.{Below}
@@ -39,13 +42,9 @@ use Rattle.integer.proofs.Bools.{clash}
 use Rattle.integer.proofs.Bounds.{within_more}
 use Rattle.integer.proofs.Firsts.{first-le, first-hit, first-none}
 use Rattle.integer.proofs.Machine.{due, due-is, due-few}
-use Rattle.devices.specs.Describing.{description_of, described_by}
-use Rattle.devices.specs.Devices.{problem_of}
+use Rattle.devices.specs.Describing.{described, refused_at, description_of}
 use Rattle.devices.specs.Problems.{Problem, rows_at, Proper}
-use Rattle.devices.specs.declared.Described.{Described}
-use Rattle.devices.proofs.Descriptions.{described-as, refused_as}
-use Rattle.planner.specs.PlanCall.{Verdict, refused, searched, silent_first, verdict_of, working_numbers, plan_verdict, plan_numbers, may_use, WorkKept}
-use Rattle.planner.specs.declared.Planned.{Planned}
+use Rattle.planner.specs.PlanCall.{Verdict, refused, searched, silent_first, verdict_of, working_numbers, plan_verdict, Planned, plan_numbers, planned_as, may_use, WorkKept}
 
 -- Marking the faults.
 
@@ -130,16 +129,16 @@ pub verdict-silent : (p : Problem) (first : ℕ) → first ≡ silent_first p �
 unfolding verdict_of
 verdict-silent p first e h = rw (← e, lt-ltb first (length p.faulted) h, add-one)
 
-numbers-none : (o : Option (List ℕ)) (s : LabelSet) → s ≡ set_of o → ((xs : List ℕ) → o ≡ some xs → 1 ≤ length xs) → s.size ≡ 0 → plan_numbers (searched o) ≡ plan_numbers (refused 14 0)
-numbers-none none s e least h = refl
-numbers-none (some xs) s e least h = absurd (omega (arith, least xs refl, ap (λ (t : LabelSet). t.size) e))
-
 abbrev pub planned_of : LabelSet → Planned
 planned_of s = record { number = 0; place = 0; size = s.size; labels = s.labels }
 
-numbers-some : (o : Option (List ℕ)) (s : LabelSet) → s ≡ set_of o → (s.size ≡ 0 → ⊥) → plan_numbers (searched o) ≡ planned_of s
-numbers-some none s e h = absurd (h (ap (λ (t : LabelSet). t.size) e))
-numbers-some (some xs) s e h = ap planned_of (sym e)
+numbers-none : (o : Option (List ℕ)) → None ≡ set_of o → plan_numbers (searched o) ≡ plan_numbers (refused 14 0)
+numbers-none none e = refl
+numbers-none (some xs) e = cc
+
+numbers-some : (o : Option (List ℕ)) (s : LabelSet) → Some s ≡ set_of o → plan_numbers (searched o) ≡ planned_of s
+numbers-some none s e = cc
+numbers-some (some xs) s e = let same : s ≡ record { size = length xs; labels = four_of xs } = cc in ap planned_of (sym same)
 
 abbrev signature : Problem → Option (List ℕ)
 signature p = signature_of p.sound p.faulted p.cap
@@ -168,9 +167,9 @@ module _ {p : Problem} {q : ℕ} {labels masks : List ℕ} (r : AllMarked p q la
         r.right.cap-high,
       )
 
-  -- s is what it finds
-  module _ (s : LabelSet) (found : s ≡ set_at labels (plan_of (clears masks (2 ^ q - 1)) (up_to (length masks)) p.cap)) where
-    as-signature : s ≡ set_of (signature p)
+  -- what it finds
+  module _ (o : Found LabelSet) (found : o ≡ set_at labels (plan_of (clears masks (2 ^ q - 1)) (up_to (length masks)) p.cap)) where
+    as-signature : o ≡ set_of (signature p)
     as-signature =
         let all : q ≡ length p.faulted = sym r.count in
         found ∙ ap (λ (k : ℕ). set_at labels (plan_of (clears masks (2 ^ k - 1)) (up_to (length masks)) p.cap)) all
@@ -181,11 +180,18 @@ module _ {p : Problem} {q : ℕ} {labels masks : List ℕ} (r : AllMarked p q la
     unfolding verdict_of
     as-searched = rw (le-ltb (silent_first p) (length p.faulted) (omega (arith, r.count, r.none-silent)))
 
-    pub verdict-none : s.size ≡ 0 → plan_numbers (refused 14 0) ≡ plan_numbers (verdict_of p)
-    verdict-none h = sym (ap plan_numbers as-searched ∙ numbers-none (signature p) s as-signature (λ xs e. (signature-found p.sound p.faulted p.cap xs e).1) h)
+    verdict-none : o ≡ None → plan_numbers (refused 14 0) ≡ plan_numbers (verdict_of p)
+    verdict-none e = sym (ap plan_numbers as-searched ∙ numbers-none (signature p) (sym e ∙ as-signature))
 
-    pub verdict-found : (s.size ≡ 0 → ⊥) → planned_of s ≡ plan_numbers (verdict_of p)
-    verdict-found h = sym (ap plan_numbers as-searched ∙ numbers-some (signature p) s as-signature h)
+    verdict-found : (s : LabelSet) → o ≡ Some s → planned_of s ≡ plan_numbers (verdict_of p)
+    verdict-found s e = sym (ap plan_numbers as-searched ∙ numbers-some (signature p) s (sym e ∙ as-signature))
+
+    pub verdict-chosen : planned_as (ok_or o NoSet) ≡ plan_numbers (verdict_of p)
+    verdict-chosen = go o refl
+      where
+        go : (u : Found LabelSet) → o ≡ u → planned_as (ok_or u NoSet) ≡ plan_numbers (verdict_of p)
+        go None e = verdict-none e
+        go (Some s) e = verdict-found s e
 
 -- a list of at most four, as it is returned
 pub kept-four : (xs : List ℕ) → length xs ≤ 4 → take (length xs) (four_of xs) ≡ xs
@@ -197,19 +203,19 @@ kept-four (a ∷ b ∷ c ∷ d ∷ []) h = refl
 kept-four (a ∷ b ∷ c ∷ d ∷ e ∷ xs) h = absurd (omega arith)
 
 -- by what was described
-module _ (text : List ℕ) (work : ℕ) (r : Described) (means : described_by r ≡ description_of text) where
-  pub verdict-text : (r.number ≡ 0 → ⊥) → plan_verdict text work ≡ refused r.number r.place
+module _ (text : List ℕ) (work : ℕ) where
+  pub verdict-text : {number place : ℕ} → refused_at number place ≡ description_of text → refused number place ≡ plan_verdict text work
   unfolding plan_verdict
-  verdict-text n = rw (refused_as text r means n)
+  verdict-text e = rw (← e)
 
-  module _ (number : r.number ≡ 0) where
-    pub verdict-room : work < working_numbers → plan_verdict text work ≡ refused 8 0
+  module _ (p : Problem) (is : described p ≡ description_of text) where
+    pub verdict-room : work < working_numbers → refused 8 0 ≡ plan_verdict text work
     unfolding plan_verdict
-    verdict-room h = rw (described-as text r means number, lt-ltb work working_numbers h)
+    verdict-room h = rw (← is, lt-ltb work working_numbers h)
 
-    pub verdict-served : working_numbers ≤ work → plan_verdict text work ≡ verdict_of (problem_of r.device)
+    pub verdict-served : working_numbers ≤ work → verdict_of p ≡ plan_verdict text work
     unfolding plan_verdict
-    verdict-served h = rw (described-as text r means number, le-ltb work working_numbers h)
+    verdict-served h = rw (← is, le-ltb work working_numbers h)
 
 -- The working numbers.
 

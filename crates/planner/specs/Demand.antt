@@ -9,7 +9,7 @@ use Rattle.cover.specs.Order.{rising, precedes}
 use Rattle.integer.specs.Tab.{nth}
 use Rattle.devices.specs.Problems.{Problem, rows_at}
 use Rattle.transform.specs.Spectrum.{coefficient_of}
-use Rattle.planner.specs.declared.Planned.{Planned}
+use Rattle.planner.specs.PlanCall.{Planned}
 
 -- the fault's number is one of the text's
 abbrev pub Named : Problem → ℕ → Type 0

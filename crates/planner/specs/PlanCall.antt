@@ -4,13 +4,15 @@
 --   "Calls on text then test 12, 8, 13, 14." "A refusal writes nothing, except that 13 and 14 may have used the working numbers." "Sizes, labels
 --   and readings returned with a refusal are 0."
 -- and document 02, note 1: "the circuit, plan and report calls take tables"; a table is planned over its doubled rows.
-use Rattle.std.specs.Prelude.{ℕ, suc, Bool, false, cond, ◌||◌, List, [], ◌≡◌, eqb, ltb, length, drop}
+use Rattle.std.specs.Prelude.{ℕ, suc, Bool, false, cond, ◌||◌, List, [], ◌≡◌, eqb, ltb, length, drop, Result}
 use Rattle.std.proofs.Math.Option.{Option, none, some}
 use Rattle.cover.specs.Cover.{first_silent, signature_of}
 use Rattle.search.specs.Sets.{four_of}
 use Rattle.devices.specs.Describing.{on_description, description_of}
 use Rattle.devices.specs.Problems.{Problem}
-use Rattle.planner.specs.declared.Planned.{Planned}
+use Rattle.refusals.specs.Refusals.{told}
+use Rattle.refusals.specs.declared.Refusal.{Refusal}
+use Rattle.search.specs.declared.LabelSet.{LabelSet}
 
 -- a refusal's number and place, or the plan's labels
 pub data Verdict : Type 0 where
@@ -42,21 +44,33 @@ problem_verdict work p = cond (ltb work working_numbers) (refused 8 0) (verdict_
 unfoldable pub plan_verdict : List ℕ → ℕ → Verdict
 plan_verdict text work = on_description (problem_verdict work) refused (description_of text)
 
+-- "How many labels": number 0 with a plan of `size` labels; label places past the size hold 0, and with a refusal size and labels are 0
+pub record Planned : Type 0 where
+  pub number : ℕ
+  pub place : ℕ
+  pub size : ℕ
+  pub labels : List ℕ
+
 -- document 01's numbers of a verdict
 abbrev pub plan_numbers : Verdict → Planned
 plan_numbers (refused number place) = record { number = number; place = place; size = 0; labels = four_of [] }
 plan_numbers (planned labels) = record { number = 0; place = 0; size = length labels; labels = four_of labels }
 
+-- and of what the code answers
+abbrev pub planned_as : Result LabelSet Refusal → Planned
+planned_as result =
+    told (λ s. record { number = 0; place = 0; size = s.size; labels = s.labels }) (λ number place. record { number = number; place = place; size = 0; labels = four_of [] }) result
+
 unfoldable pub plan_answer : List ℕ → ℕ → Planned
 plan_answer text work = plan_numbers (plan_verdict text work)
 
-abbrev pub refusal_number : Verdict → ℕ
-refusal_number (refused number place) = number
-refusal_number (planned labels) = 0
+abbrev pub verdict_number : Verdict → ℕ
+verdict_number (refused number place) = number
+verdict_number (planned labels) = 0
 
 -- a plan, 13 and 14 may have used the working numbers
 unfoldable pub may_use : Verdict → Bool
-may_use v = eqb (refusal_number v) 0 || (eqb (refusal_number v) 13 || eqb (refusal_number v) 14)
+may_use v = eqb (verdict_number v) 0 || (eqb (verdict_number v) 13 || eqb (verdict_number v) 14)
 
 -- what holds of the working numbers afterwards
 pub record WorkKept (v : Verdict) (before after : List ℕ) : Type 0 where

@@ -2,6 +2,7 @@
 --   total-le, total-room        the size of a partial sum; one more row of rows within 1,000 leaves one that fits 32 bits
 --   count-le                 a count is at most the number of rows
 --   sum-taken, sum_left, count-taken, count_left    one row more, that agrees or not
+--   total_fits, sum-more       one that agrees, as the machine adds it
 use mathlib.Core.Path.{◌≡◌, ap, sym, ◌∙◌}
 use mathlib.Core.Bool.{Bool, true, false, cond}
 use mathlib.Core.List.{List}
@@ -15,7 +16,10 @@ use lib.ListN.{length}
 use borrow.Author.Tests.{eq-eqb, ne_eqb}
 use Rattle.integer.specs.Sum.{sum_to}
 use Rattle.integer.specs.Tab.{nth, Within}
-use Rattle.integer.proofs.Bounds.{partial_le, partial-room}
+use mir.Syntax.{w32}
+use mir.Val.{SFits, to_z, of_z}
+use mir.ValLaws.{to_z-of_z}
+use Rattle.integer.proofs.Bounds.{nat_abs-add, sfits-abs, partial_le, partial-room}
 use Rattle.reading.specs.Readings.{agrees, count_to, term_at}
 
 module _ (mask values : ℕ) (rows : List ℤ) where
@@ -41,6 +45,17 @@ module _ (mask values : ℕ) (rows : List ℤ) where
     pub sum_left : (bit_and i mask ≡ values → ⊥) → sum_to i (term_at mask values rows) ≡ sum_to (i + 1) (term_at mask values rows)
     unfolding sum_to agrees
     sum_left e = rw (add-one, ne_eqb (bit_and i mask) values e) (sym (+ℤ_idr _))
+
+  -- a row that agrees, as the machine adds it
+  module _ (i : ℕ) (s : ℤ) (so_far : s ≡ sum_to i (term_at mask values rows)) (few : length rows ≤ 2048) (small : Within 1000 rows) (inside : i < length rows) where
+    read : to_z w32 (of_z w32 (nth rows i)) ≡ nth rows i
+    read = to_z-of_z w32 (nth rows i) (sfits-abs (omega (arith, small i inside)))
+
+    pub total_fits : SFits w32 (s +ℤ to_z w32 (of_z w32 (nth rows i)))
+    total_fits = rw (read, so_far) (sfits-abs (omega (arith, total-room i few small inside, nat_abs-add (sum_to i (term_at mask values rows)) (nth rows i))))
+
+    pub sum-more : bit_and i mask ≡ values → to_z w32 (of_z w32 (s +ℤ to_z w32 (of_z w32 (nth rows i)))) ≡ sum_to (i + 1) (term_at mask values rows)
+    sum-more e = to_z-of_z w32 _ total_fits ∙ ap (λ (z : ℤ). s +ℤ z) read ∙ ap (λ (z : ℤ). z +ℤ nth rows i) so_far ∙ sum-taken i e
 
 pub count-le : (n : ℕ) (p : ℕ → Bool) → count_to n p ≤ n
 unfolding count_to

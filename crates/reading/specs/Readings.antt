@@ -11,8 +11,23 @@ use Rattle.std.specs.Float.Ieee.{of_int, div, sub}
 use Rattle.integer.specs.Sum.{sum_to}
 use Rattle.integer.specs.Tab.{nth}
 use Rattle.reading.specs.declared.ReadingPair.{ReadingPair}
-use Rattle.reading.specs.declared.Reading.{Reading}
-use Rattle.reading.specs.declared.Reading.TheVariants.{Syndrome, Weighted, Constrained, Refused}
+use Rattle.reading.specs.declared.Reading as code
+use Rattle.reading.specs.declared.Reading.TheVariants.{Syndrome as ReadSyndrome, Weighted as ReadWeighted, Constrained as ReadConstrained, Refused as ReadRefused}
+use Rattle.refusals.specs.Refusals.{refusal_number, refusal_place}
+
+-- "The answer is a case"; a constrained value with its number of fixed inputs, a refusal with document 01's number and place
+pub data ReadingAnswer : Type 0 where
+  Syndrome : Float → ReadingAnswer
+  Weighted : Float → ReadingAnswer
+  Constrained : Float → ℕ → ReadingAnswer
+  Unreadable : ℕ → ℕ → ReadingAnswer
+
+-- what a reading of the code says
+abbrev pub read_as : code.Reading → ReadingAnswer
+read_as (ReadSyndrome x) = Syndrome x
+read_as (ReadWeighted x) = Weighted x
+read_as (ReadConstrained x fixed) = Constrained x fixed
+read_as (ReadRefused r) = Unreadable (refusal_number r) (refusal_place r)
 
 -- the row has the given values at the inputs of the mask
 unfoldable pub agrees : ℕ → ℕ → ℕ → Bool
@@ -42,12 +57,12 @@ unfoldable pub mean_of : ℕ → ℕ → List ℤ → Float
 mean_of mask values rows = quotient (whole_sum mask values rows) (count_of mask values (length rows))
 
 -- the case of a value: constrained unless the mask is 0, then weighted or plain
-abbrev pub case_with : Bool → Bool → ℕ → Float → Reading
+abbrev pub case_with : Bool → Bool → ℕ → Float → ReadingAnswer
 case_with false weighted fixed x = Constrained x fixed
 case_with true true fixed x = Weighted x
 case_with true false fixed x = Syndrome x
 
-unfoldable pub case_of : Bool → ℕ → Float → Reading
+unfoldable pub case_of : Bool → ℕ → Float → ReadingAnswer
 case_of weighted mask x = case_with (eqb mask 0) weighted (ones mask) x
 
 unfoldable pub pair_of : Float → Float → ReadingPair
@@ -58,26 +73,26 @@ abbrev pub none : Float
 none = fin false 0 (pos 0)
 
 -- document 01's number and values of a reading
-abbrev pub reading_number : Reading → ℕ
+abbrev pub reading_number : ReadingAnswer → ℕ
 reading_number (Syndrome x) = 0
 reading_number (Weighted x) = 0
 reading_number (Constrained x fixed) = 0
-reading_number (Refused number place) = number
+reading_number (Unreadable number place) = number
 
-abbrev pub reading_place : Reading → ℕ
+abbrev pub reading_place : ReadingAnswer → ℕ
 reading_place (Syndrome x) = 0
 reading_place (Weighted x) = 0
 reading_place (Constrained x fixed) = 0
-reading_place (Refused number place) = place
+reading_place (Unreadable number place) = place
 
-abbrev pub reading_of : Reading → Float
+abbrev pub reading_of : ReadingAnswer → Float
 reading_of (Syndrome x) = x
 reading_of (Weighted x) = x
 reading_of (Constrained x fixed) = x
-reading_of (Refused number place) = none
+reading_of (Unreadable number place) = none
 
-abbrev pub fixed_of : Reading → ℕ
+abbrev pub fixed_of : ReadingAnswer → ℕ
 fixed_of (Syndrome x) = 0
 fixed_of (Weighted x) = 0
 fixed_of (Constrained x fixed) = fixed
-fixed_of (Refused number place) = 0
+fixed_of (Unreadable number place) = 0

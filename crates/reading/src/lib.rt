@@ -3,7 +3,9 @@
 
 ghost use Rattle.std.specs.Prelude.{◌≡◌, ◌≤◌, length};
 ghost use Rattle.integer.specs.Tab.{Within};
-ghost use Rattle.reading.specs.Readings.{whole_sum, count_of, quotient, mean_of, case_of, pair_of};
+ghost use Rattle.reading.specs.Readings.{whole_sum, count_of, quotient, mean_of, read_as, case_of, pair_of};
+
+use refusals::Refusal;
 
 // A reading by its case; a constrained one has the number of fixed inputs.
 #[derive(Clone, Copy)]
@@ -11,7 +13,7 @@ pub enum Reading {
     Syndrome(f64),
     Weighted(f64),
     Constrained(f64, u32),
-    Refused { number: u32, place: usize },
+    Refused(Refusal),
 }
 
 // The readings of a sound circuit and a faulty one, and sound minus faulty.
@@ -28,13 +30,11 @@ fn sum_of(rows: &[i32], mask: u32, values: u32) -> i32
     requires within { Within 1000 rows.now }
     ensures { result ≡ whole_sum mask values rows.now }
 {
-    let mut sum: i32 = 0;
-    let mut row: usize = 0;
-    while row < rows.len() {
-        if (row as u32) & mask == values {
-            sum = sum + rows[row];
+    let mut sum = 0;
+    for (row, value) in rows.iter().enumerate() {
+        if row as u32 & mask == values {
+            sum += *value;
         }
-        row += 1;
     }
     sum
 }
@@ -43,18 +43,17 @@ fn sum_of(rows: &[i32], mask: u32, values: u32) -> i32
 fn count_of(rows: u32, mask: u32, values: u32) -> u32
     ensures { result ≡ count_of mask values rows }
 {
-    let mut count: u32 = 0;
-    let mut row: u32 = 0;
-    while row < rows {
+    let mut count = 0;
+    for row in 0..rows {
         if row & mask == values {
             count += 1;
         }
-        row += 1;
     }
     count
 }
 
 // One division, for every sum and count.
+#[tactic(auto, unfolding(crate::specs::Readings::quotient))]
 fn fraction(sum: i32, count: u32) -> f64
     ensures { result ≡ quotient sum count }
 {
@@ -62,6 +61,7 @@ fn fraction(sum: i32, count: u32) -> f64
 }
 
 // The mean of those rows: their sum by their count.
+#[tactic(auto, unfolding(crate::specs::Readings::mean_of))]
 pub fn mean(rows: &[i32], mask: u32, values: u32) -> f64
     requires rows_len_bound { length rows.now ≤ 2048 }
     requires within { Within 1000 rows.now }
@@ -72,19 +72,20 @@ pub fn mean(rows: &[i32], mask: u32, values: u32) -> f64
 }
 
 // The value as a case: constrained where inputs are fixed, else a weighted sum or a plain syndrome.
+#[tactic(auto, unfolding(crate::specs::Readings::case_of))]
 pub fn case_of(value: f64, mask: u32, weighted: bool) -> Reading
-    ensures { result ≡ case_of weighted mask value }
+    ensures { read_as result ≡ case_of weighted mask value }
 {
     if mask != 0 {
-        return Reading::Constrained(value, u32::count_ones(mask));
-    }
-    if weighted {
+        Reading::Constrained(value, u32::count_ones(mask))
+    } else if weighted {
         Reading::Weighted(value)
     } else {
         Reading::Syndrome(value)
     }
 }
 
+#[tactic(auto, unfolding(crate::specs::Readings::pair_of))]
 pub fn pair_of(sound: f64, faulty: f64) -> ReadingPair
     ensures { result ≡ pair_of sound faulty }
 {

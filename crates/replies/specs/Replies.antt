@@ -1,16 +1,12 @@
 -- What it means that a struct of the C functions gives an answer: it has document 01's number and values of it.
 use Rattle.std.specs.Prelude.{◌≡◌, ℕ, ◌+◌}
-use Rattle.fixture.specs.declared.Compared.{Compared}
-use Rattle.planner.specs.declared.Planned.{Planned}
-use Rattle.reading.specs.Readings.{reading_number, reading_place, reading_of, fixed_of}
-use Rattle.reading.specs.declared.Reading.{Reading}
-use Rattle.reading.specs.declared.Reading.TheVariants.{Syndrome, Weighted, Constrained, Refused}
-use Rattle.report.specs.declared.Reported.{Reported}
-use Rattle.text.specs.declared.Span.{Span}
-use Rattle.screen.specs.Answers.{answer_number, answer_place}
-use Rattle.walsh.specs.Coefficients.{found_number, found_place, found_value}
-use Rattle.screen.specs.declared.Answer.{Answer}
-use Rattle.walsh.specs.declared.Found.{Found}
+use Rattle.fixture.specs.ReadingCall.{Compared}
+use Rattle.planner.specs.PlanCall.{Planned}
+use Rattle.reading.specs.Readings.{ReadingAnswer, Syndrome, Weighted, Constrained, Unreadable, reading_number, reading_place, reading_of, fixed_of}
+use Rattle.report.specs.ReportCall.{Reported}
+use Rattle.std.specs.declared.ops.Range.{Range}
+use Rattle.screen.specs.Answers.{Answer, answer_number, answer_place}
+use Rattle.walsh.specs.Coefficients.{Found, found_number, found_place, found_value}
 use Rattle.replies.specs.declared.Comparison.{Comparison}
 use Rattle.replies.specs.declared.Measured.{Measured}
 use Rattle.replies.specs.declared.Part.{Part}
@@ -39,13 +35,13 @@ pub record GivesReport (r : Written) (a : Reported) : Type 0 where
   pub bytes : r.bytes ≡ a.bytes
 
 -- the case of a reading, 0 for a refusal
-abbrev pub reading_kind : Reading → ℕ
+abbrev pub reading_kind : ReadingAnswer → ℕ
 reading_kind (Syndrome x) = 1
 reading_kind (Weighted x) = 2
 reading_kind (Constrained x fixed) = 3
-reading_kind (Refused number place) = 0
+reading_kind (Unreadable number place) = 0
 
-pub record GivesReading (r : Measured) (a : Reading) : Type 0 where
+pub record GivesReading (r : Measured) (a : ReadingAnswer) : Type 0 where
   pub number : r.number ≡ reading_number a
   pub kind : r.kind ≡ reading_kind a
   pub fixed : r.fixed ≡ fixed_of a
@@ -59,6 +55,6 @@ pub record GivesPair (r : Comparison) (a : Compared) : Type 0 where
   pub faulty : r.faulty ≡ a.readings.faulty
   pub difference : r.difference ≡ a.readings.difference
 
-pub record GivesSpan (r : Part) (s : Span) : Type 0 where
+pub record GivesSpan (r : Part) (s : Range ℕ) : Type 0 where
   pub start : r.start ≡ s.start
   pub end : r.start + r.length ≡ s.end

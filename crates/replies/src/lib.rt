@@ -3,15 +3,12 @@
 #![tactic(auto)]
 
 ghost use Rattle.std.specs.Prelude.{◌≤◌};
-ghost use Rattle.replies.specs.Replies.{Gives, GivesFound, GivesPlan, GivesReport, GivesReading, GivesPair, GivesSpan};
+ghost use Rattle.replies.specs.Replies.{GivesSpan};
 
-use fixture::Compared;
-use planner::Planned;
-use reading::Reading;
-use report::Reported;
-use screen::Answer;
-use text::Span;
-use walsh::Found;
+use reading::{Reading, ReadingPair};
+use refusals::Refusal;
+use search::LabelSet;
+use std::ops::Range;
 
 // Number 0 where the call is done.
 #[repr(C)]
@@ -79,105 +76,161 @@ pub struct Part {
     pub length: usize,
 }
 
-pub fn to_reply(a: Answer) -> Reply
-    ensures { Gives result a }
-{
-    match a {
-        Answer::Done => Reply {
-            number: 0,
-            place: 0,
-        },
-        Answer::Refused { number, place } => Reply { number, place },
+impl From<Result<(), Refusal>> for Reply {
+    ghost use Rattle.screen.specs.Answers.{answer_of};
+    ghost use Rattle.replies.specs.Replies.{Gives};
+
+    ghost from_gives = { λ answer reply. Gives reply (answer_of answer) };
+
+    fn from(answer: Result<(), Refusal>) -> Self {
+        match answer {
+            Ok(()) => Reply {
+                number: 0,
+                place: 0,
+            },
+            Err(refusal) => Reply {
+                number: refusal.number(),
+                place: refusal.place(),
+            },
+        }
     }
 }
 
-pub fn to_sum(f: Found) -> Sum
-    ensures { GivesFound result f }
-{
-    match f {
-        Found::Coefficient(value) => Sum {
-            number: 0,
-            value,
-            place: 0,
-        },
-        Found::Refused { number, place } => Sum {
-            number,
-            value: 0,
-            place,
-        },
+impl From<Result<i32, Refusal>> for Sum {
+    ghost use Rattle.walsh.specs.Coefficients.{found_by};
+    ghost use Rattle.replies.specs.Replies.{GivesFound};
+
+    ghost from_gives = { λ answer sum. GivesFound sum (found_by answer) };
+
+    fn from(answer: Result<i32, Refusal>) -> Self {
+        match answer {
+            Ok(value) => Sum {
+                number: 0,
+                value,
+                place: 0,
+            },
+            Err(refusal) => Sum {
+                number: refusal.number(),
+                value: 0,
+                place: refusal.place(),
+            },
+        }
     }
 }
 
-pub fn to_signature(p: Planned) -> Signature
-    ensures { GivesPlan result p }
-{
-    let labels = p.labels;
-    Signature {
-        number: p.number,
-        place: p.place,
-        size: p.size,
-        labels,
+impl From<Result<LabelSet, Refusal>> for Signature {
+    ghost use Rattle.planner.specs.PlanCall.{planned_as};
+    ghost use Rattle.replies.specs.Replies.{GivesPlan};
+
+    ghost from_gives = { λ answer signature. GivesPlan signature (planned_as answer) };
+
+    fn from(answer: Result<LabelSet, Refusal>) -> Self {
+        match answer {
+            Ok(set) => {
+                let labels = set.labels;
+                Signature {
+                    number: 0,
+                    place: 0,
+                    size: set.size,
+                    labels,
+                }
+            }
+            Err(refusal) => Signature {
+                number: refusal.number(),
+                place: refusal.place(),
+                size: 0,
+                labels: [0; 4],
+            },
+        }
     }
 }
 
-pub fn to_written(r: Reported) -> Written
-    ensures { GivesReport result r }
-{
-    Written {
-        number: r.number,
-        bytes: r.bytes,
+impl From<Result<usize, Refusal>> for Written {
+    ghost use Rattle.report.specs.ReportCall.{reported_as};
+    ghost use Rattle.replies.specs.Replies.{GivesReport};
+
+    ghost from_gives = { λ answer written. GivesReport written (reported_as answer) };
+
+    fn from(answer: Result<usize, Refusal>) -> Self {
+        match answer {
+            Ok(bytes) => Written { number: 0, bytes },
+            Err(refusal) => Written {
+                number: refusal.number(),
+                bytes: 0,
+            },
+        }
     }
 }
 
-pub fn to_measured(a: Reading) -> Measured
-    ensures { GivesReading result a }
-{
-    match a {
-        Reading::Syndrome(value) => Measured {
-            number: 0,
-            kind: 1,
-            fixed: 0,
-            place: 0,
-            value,
-        },
-        Reading::Weighted(value) => Measured {
-            number: 0,
-            kind: 2,
-            fixed: 0,
-            place: 0,
-            value,
-        },
-        Reading::Constrained(value, fixed) => Measured {
-            number: 0,
-            kind: 3,
-            fixed,
-            place: 0,
-            value,
-        },
-        Reading::Refused { number, place } => Measured {
-            number,
-            kind: 0,
-            fixed: 0,
-            place,
-            value: 0.0,
-        },
+impl From<Reading> for Measured {
+    ghost use Rattle.reading.specs.Readings.{read_as};
+    ghost use Rattle.replies.specs.Replies.{GivesReading};
+
+    ghost from_gives = { λ reading measured. GivesReading measured (read_as reading) };
+
+    fn from(reading: Reading) -> Self {
+        match reading {
+            Reading::Syndrome(value) => Measured {
+                number: 0,
+                kind: 1,
+                fixed: 0,
+                place: 0,
+                value,
+            },
+            Reading::Weighted(value) => Measured {
+                number: 0,
+                kind: 2,
+                fixed: 0,
+                place: 0,
+                value,
+            },
+            Reading::Constrained(value, fixed) => Measured {
+                number: 0,
+                kind: 3,
+                fixed,
+                place: 0,
+                value,
+            },
+            Reading::Refused(refusal) => Measured {
+                number: refusal.number(),
+                kind: 0,
+                fixed: 0,
+                place: refusal.place(),
+                value: 0.0,
+            },
+        }
     }
 }
 
-pub fn to_comparison(c: Compared) -> Comparison
-    ensures { GivesPair result c }
-{
-    let readings = c.readings;
-    Comparison {
-        number: c.number,
-        place: c.place,
-        sound: readings.sound,
-        faulty: readings.faulty,
-        difference: readings.difference,
+impl From<Result<ReadingPair, Refusal>> for Comparison {
+    ghost use Rattle.fixture.specs.ReadingCall.{compared_as};
+    ghost use Rattle.replies.specs.Replies.{GivesPair};
+
+    ghost from_gives = { λ answer comparison. GivesPair comparison (compared_as answer) };
+
+    #[tactic(auto, unfolding(fixture::specs::ReadingCall::unread))]
+    fn from(answer: Result<ReadingPair, Refusal>) -> Self {
+        match answer {
+            Ok(readings) => Comparison {
+                number: 0,
+                place: 0,
+                sound: readings.sound,
+                faulty: readings.faulty,
+                difference: readings.difference,
+            },
+            Err(refusal) => Comparison {
+                number: refusal.number(),
+                place: refusal.place(),
+                sound: 0.0,
+                faulty: 0.0,
+                difference: 0.0,
+            },
+        }
     }
 }
 
-pub fn to_part(s: Span) -> Part
+// A `From` cannot ask that the range does not end before it starts.
+pub fn to_part(s: Range<usize>) -> Part
     requires { s.start ≤ s.end }
     ensures { GivesSpan result s }
 {

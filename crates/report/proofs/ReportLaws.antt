@@ -3,8 +3,8 @@
 --   report-front       it stands at the front of the lent bytes, as many as the call counts
 --   plan-lines-length, labels-room, faults-room, plan-written    all lines of a plan, and writing them one part after the other
 --   verdict-fitting    the numbers of a verdict are small, and its labels are at most 4 labels below 2^N
---   refused-by, planned-by    a verdict's lines, by its numbers
---   text-refuses, text-serves, short-out, short-work, report-served    the call, by what the text describes and the lent buffers
+--   text-refuses, text-unplanned, text-planned    the lines of a text, by what it describes and what is planned
+--   short-out, short-work, report-served    the call, by the lent buffers
 use mathlib.Core.Path.{◌≡◌, refl, sym, ap, ap₂, ◌∙◌, subst}
 use mathlib.Core.Bool.{Bool, true, false, cond, or-true}
 use mathlib.Core.List.{List, ◌++◌, append_assoc}
@@ -19,20 +19,23 @@ use Rattle.integer.specs.ListTests.{Below}
 use Rattle.integer.proofs.Entries.{at_mem}
 use Rattle.cover.specs.Cover.{signature_of}
 use Rattle.cover.proofs.Signatures.{signature-found}
-use Rattle.devices.specs.Describing.{Description, described, refused_at, description_of, described_by, on_description}
-use Rattle.devices.specs.Devices.{problem_of}
+use Rattle.devices.specs.Describing.{Description, described, refused_at, description_of, on_description}
 use Rattle.devices.specs.Problems.{Problem, Proper}
-use Rattle.devices.specs.declared.Described.{Described}
-use Rattle.devices.proofs.Descriptions.{described-proper, described-as, refused_as, refusal-small}
+use Rattle.devices.proofs.Descriptions.{described-proper, refusal-small}
+use Rattle.std.specs.Prelude.{Result, Ok, Err}
+use Rattle.std.specs.Result.{result_unwrap_or}
+use Rattle.refusals.specs.Refusals.{refusal_number, refusal_place}
+use Rattle.refusals.specs.declared.Refusal.{Refusal}
+use Rattle.sections.proofs.LineLoops.{refusal-numbered}
+use Rattle.search.specs.Sets.{four_of}
+use Rattle.search.specs.declared.LabelSet.{LabelSet}
 use Rattle.writing.specs.Writing.{placed, gather}
 use Rattle.writing.proofs.Writings.{length-placed, placed-more, placed-front, gather-length}
-use Rattle.planner.specs.PlanCall.{Verdict, refused, planned, searched, silent_first, verdict_of, working_numbers, plan_verdict, plan_numbers, WorkKept}
-use Rattle.planner.specs.declared.Planned.{Planned}
+use Rattle.planner.specs.PlanCall.{Verdict, refused, planned, searched, silent_first, verdict_of, working_numbers, plan_verdict, Planned, plan_numbers, planned_as, WorkKept}
 use Rattle.planner.proofs.PlanLaws.{kept, kept-four}
 use Rattle.report_lines.specs.ReportLines.{plan_line, refused_line, label_line, fault_report_line, plan_lines, report_bytes}
 use Rattle.report_lines.proofs.ReportLines.{refused-length, plan-length, label-line-length, fault-line-length}
-use Rattle.report.specs.ReportCall.{verdict_lines, problem_report, report_of, short, report_answer, report_left, report_verdict}
-use Rattle.report.specs.declared.Reported.{Reported}
+use Rattle.report.specs.ReportCall.{verdict_lines, problem_report, report_of, short, Reported, report_answer, report_left, report_verdict, reported_as}
 
 module _ (p : Problem) (right : Proper p) (labels : List ℕ) (low : Below (2 ^ p.inputs) labels) where
   label-part : length (gather (label_line p.sound labels) (length labels)) ≤ length labels * 17
@@ -124,16 +127,22 @@ verdict-length : (p : Problem) (right : Proper p) (v : Verdict) → LinesFit p v
 verdict-length p right (refused number place) f = let l = refused-length number place f.1 f.2 in omega (arith, l)
 verdict-length p right (planned labels) f = plan-lines-length p right labels f.0 f.1
 
--- the numbers of a verdict, and what its lines are
-module _ (q : Problem) (p : Planned) where
-  pub refused-by : (v : Verdict) → LinesFit q v → p ≡ plan_numbers v → (p.number ≡ 0 → ⊥) → (p.number < 100) × (p.place < 1000) × (refused_line p.number p.place ≡ verdict_lines q v)
-  refused-by (refused number place) f e h = rw e (f.1, f.2, refl)
-  refused-by (planned labels) f e h = absurd (h (ap (λ (x : Planned). x.number) e))
+-- the lines of what is planned, by what the code answers
+module _ (q : Problem) where
+  refused-by : (r : Refusal) (v : Verdict) → LinesFit q v → planned_as (Err r) ≡ plan_numbers v → (refusal_place r < 1000) × (refused_line (refusal_number r) (refusal_place r) ≡ verdict_lines q v)
+  refused-by r (refused number place) f e =
+      let n : refusal_number r ≡ number = ap (λ (x : Planned). x.number) e in
+      let p : refusal_place r ≡ place = ap (λ (x : Planned). x.place) e in
+      (subst (λ (k : ℕ). k < 1000) (sym p) f.2, ap₂ refused_line n p)
+  refused-by r (planned labels) f e = absurd (refusal-numbered r (ap (λ (x : Planned). x.number) e))
 
-  pub planned-by : (v : Verdict) → LinesFit q v → p ≡ plan_numbers v → p.number ≡ 0
-      → (p.size ≤ 4) × Below (2 ^ q.inputs) (take p.size p.labels) × (plan_lines q.sound q.faulted (take p.size p.labels) ≡ verdict_lines q v)
-  planned-by (refused number place) f e h = let k = ap (λ (x : Planned). x.number) e in absurd (omega (arith, f.0, k, h))
-  planned-by (planned labels) f e h = rw e (rw (kept-four labels f.1) (f.1, f.0, refl))
+  planned-by : (s : LabelSet) (v : Verdict) → LinesFit q v → planned_as (Ok s) ≡ plan_numbers v
+      → (s.size ≤ 4) × Below (2 ^ q.inputs) (take s.size s.labels) × (plan_lines q.sound q.faulted (take s.size s.labels) ≡ verdict_lines q v)
+  planned-by s (refused number place) f e = let k = ap (λ (x : Planned). x.number) e in absurd (omega (arith, f.0, k))
+  planned-by s (planned labels) f e =
+      let n : s.size ≡ length labels = ap (λ (x : Planned). x.size) e in
+      let l : s.labels ≡ four_of labels = ap (λ (x : Planned). x.labels) e in
+      rw (n, l) (rw (kept-four labels f.1) (f.1, f.0, refl))
 
 -- every report fits
 pub report-fits : (text : List ℕ) → length (report_of text) ≤ 715
@@ -149,26 +158,33 @@ report-fits text = go (description_of text) refl
 
 -- ---- the call
 
-pub front_same : (out : List ℕ) {a b now : List ℕ} {end : ℕ} → a ≡ b → (end ≡ length a) × (now ≡ placed 0 a out) → (end ≡ length b) × (now ≡ placed 0 b out)
-front_same out same r = (r.0 ∙ ap length same, r.1 ∙ ap (λ (l : List ℕ). placed 0 l out) same)
-
 -- by what was described
-module _ (text : List ℕ) (r : Described) (means : described_by r ≡ description_of text) where
-  pub text-refuses : (r.number ≡ 0 → ⊥) → (r.number < 100) × (r.place < 1000) × (refused_line r.number r.place ≡ report_of text)
+module _ (text : List ℕ) where
+  pub text-refuses : (r : Refusal) → refused_at (refusal_number r) (refusal_place r) ≡ description_of text
+      → (refusal_place r < 1000) × (refused_line (refusal_number r) (refusal_place r) ≡ report_of text)
   unfolding report_of
-  text-refuses h =
-      let e = refused_as text r means h in
-      let s = refusal-small text r.number r.place e in
-      (s.1, s.2, sym (ap (on_description problem_report refused_line) e))
+  text-refuses r e = ((refusal-small text _ _ (sym e)).2, ap (on_description problem_report refused_line) e)
 
-  pub text-serves : r.number ≡ 0 → verdict_lines (problem_of r.device) (verdict_of (problem_of r.device)) ≡ report_of text
+  text-serves : (p : Problem) → described p ≡ description_of text → verdict_lines p (verdict_of p) ≡ report_of text
   unfolding report_of
-  text-serves h = sym (ap (on_description problem_report refused_line) (described-as text r means h))
+  text-serves p e = ap (on_description problem_report refused_line) e
+
+-- what is planned, by what the code answers
+module _ (text : List ℕ) (p : Problem) (is : described p ≡ description_of text) where
+  fits : LinesFit p (verdict_of p)
+  fits = verdict-fitting p (described-proper text p (sym is))
+
+  pub text-unplanned : (r : Refusal) → planned_as (Err r) ≡ plan_numbers (verdict_of p) → (refusal_place r < 1000) × (refused_line (refusal_number r) (refusal_place r) ≡ report_of text)
+  text-unplanned r e = let b = refused-by p r (verdict_of p) fits e in (b.0, b.1 ∙ text-serves text p is)
+
+  pub text-planned : (s : LabelSet) → planned_as (Ok s) ≡ plan_numbers (verdict_of p)
+      → (s.size ≤ 4) × Below (2 ^ p.inputs) (take s.size s.labels) × (plan_lines p.sound p.faulted (take s.size s.labels) ≡ report_of text)
+  text-planned s e = let b = planned-by p s (verdict_of p) fits e in (b.0, b.1, b.2 ∙ text-serves text p is)
 
 -- by the lent buffers
 module _ (text out work : List ℕ) where
   -- number 8, and both buffers untouched
-  abbrev Short : Type 0
+  abbrev pub Short : Type 0
   Short =
       (record { number = 8; bytes = 0 } ≡ report_answer text (length out) (length work))
       × ((out ≡ report_left text (length work) out) × WorkKept (report_verdict text (length out) (length work)) work work)
@@ -195,20 +211,24 @@ module _ (text out work : List ℕ) where
       (ap (λ (n : ℕ). record { number = 0; bytes = n }) r.0, (r.1.0 ∙ placed-front (report_of text) out, r.1.1))
 
 -- the report stands at the front of the lent bytes, as many as the call counts
-pub report-front : (r : Reported) (text out now : List ℕ) (work : ℕ) → report_bytes ≤ length out → working_numbers ≤ work
-    → r ≡ report_answer text (length out) work → now ≡ report_left text work out
-    → ((r.bytes ≤ length now) × (r.bytes ≡ length (take r.bytes now))) × (take r.bytes now ≡ report_of text)
+pub report-front : (r : Result ℕ Refusal) (text out now : List ℕ) (work : ℕ) → report_bytes ≤ length out → working_numbers ≤ work
+    → reported_as r ≡ report_answer text (length out) work → now ≡ report_left text work out
+    → ((result_unwrap_or r 0 ≤ length now) × (result_unwrap_or r 0 ≡ length (take (result_unwrap_or r 0) now))) × (take (result_unwrap_or r 0) now ≡ report_of text)
 unfolding report_answer report_left short
-report-front r text out now work b w is left = ((within, bytes ∙ sym (ap length front)), front)
+report-front r text out now work b w is left = go r is
   where
-    bytes : r.bytes ≡ length (report_of text)
-    bytes = ap (λ (r : Reported). r.bytes) is ∙ rw (le-ltb (length out) report_bytes b, le-ltb work working_numbers w)
-
     now-is : now ≡ report_of text ++ drop (length (report_of text)) out
     now-is = left ∙ rw (le-ltb (length out) report_bytes b, le-ltb work working_numbers w)
 
-    front : take r.bytes now ≡ report_of text
-    front = ap₂ take bytes now-is ∙ take-append_seam (report_of text) (drop (length (report_of text)) out)
+    served : (a : Reported) → a ≡ report_answer text (length out) work → a ≡ record { number = 0; bytes = length (report_of text) }
+    served a e = e ∙ rw (le-ltb (length out) report_bytes b, le-ltb work working_numbers w)
 
-    within : r.bytes ≤ length now
-    within = omega (arith, bytes, ap length now-is, length-append (report_of text) (drop (length (report_of text)) out))
+    front : (bytes : ℕ) → bytes ≡ length (report_of text) → ((bytes ≤ length now) × (bytes ≡ length (take bytes now))) × (take bytes now ≡ report_of text)
+    front bytes e =
+        let same : take bytes now ≡ report_of text = ap₂ take e now-is ∙ take-append_seam (report_of text) (drop (length (report_of text)) out) in
+        ((omega (arith, e, ap length now-is, length-append (report_of text) (drop (length (report_of text)) out)), e ∙ sym (ap length same)), same)
+
+    go : (r : Result ℕ Refusal) → reported_as r ≡ report_answer text (length out) work
+        → ((result_unwrap_or r 0 ≤ length now) × (result_unwrap_or r 0 ≡ length (take (result_unwrap_or r 0) now))) × (take (result_unwrap_or r 0) now ≡ report_of text)
+    go (Ok bytes) e = front bytes (ap (λ (a : Reported). a.bytes) (served (reported_as (Ok bytes)) e))
+    go (Err f) e = absurd (refusal-numbered f (ap (λ (a : Reported). a.number) (served (reported_as (Err f)) e)))

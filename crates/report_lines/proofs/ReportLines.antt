@@ -1,14 +1,15 @@
 -- The lines of a report, one at a time:
---   refused-length, plan-length, label-length, fault-length    how long a line is
---   refused-read, plan-read, label-read, fault-read    a line with its numbers as the code reads them
+--   refused-length, refusal-length, plan-length, label-length, fault-length    how long a line is
+--   refused-read, refusal-read, plan-read, label-read, fault-read    a line with its numbers as the code reads them
 --   at-spectrum, label-lines-same, covering-same    lines and first covering labels, read off the spectra
 --   covering-here, covering-later, covering-none    a search for the first covering label
 --   spectrum-left    what the spectrum leaves in a buffer of its size
 --   label-line-length, fault-line-length    how long the lines of a problem are
+--   no-label, label-fits, label-more, no-fault, fault-fits, fault-more    writing all labels' and all faults' lines, one more at a time
 use mathlib.Core.Path.{◌≡◌, refl, sym, ap, ap₂, ◌∙◌, subst}
 use mathlib.Core.Bool.{Bool, true, false}
 use mathlib.Core.List.{List, [], ◌∷◌, ◌++◌, append-nil}
-use Prim.Native.Nat.{ℕ, suc, ◌+◌, ◌^◌, ◌<◌, ◌≤◌}
+use Prim.Native.Nat.{ℕ, suc, ◌+◌, ◌*◌, ◌^◌, ◌<◌, ◌≤◌}
 use native.Mathlib.Numerals.{add-one}
 use native.Mathlib.Omega.{arith}
 use lib.Dec.{ltb}
@@ -20,6 +21,12 @@ use mir.Val.{to_z, of_z, SFits}
 use mir.ValLaws.{to_z-of_z}
 use borrow.Author.Count.{below_more}
 use borrow.Author.Tests.{le-ltb, ltb-true, ltb-false}
+use Rattle.refusals.specs.declared.Flaw.{Flaw}
+use Rattle.refusals.specs.declared.Flaw.TheVariants.{Malformed, OutOfRange as ValueOutOfRange, ReadsAhead, NoSuchLine, NotRising, NotAMark, NotInputs}
+use Rattle.refusals.specs.declared.Refusal.{Refusal}
+use Rattle.refusals.specs.declared.Refusal.TheVariants.{TextTooLong, Line, TextGoesOn, ShortBuffer, WrongLength, OutOfRange, Indivisible, WrongArgument, Silent, NoSet}
+use Rattle.refusals.specs.Refusals.{flaw_number, refusal_number, refusal_place}
+use Rattle.screen.specs.Answers.{Answer, Done}
 use Rattle.cover.specs.Cover.{covers, fault_rows}
 use Rattle.integer.specs.First.{first_where}
 use Rattle.integer.specs.Tab.{nth, Within}
@@ -31,11 +38,9 @@ use Rattle.integer.proofs.Differing.{ne-differ, eq-differ}
 use Rattle.devices.specs.Problems.{Problem, rows_at, Proper}
 use Rattle.statements.specs.Lines.{fault_word}
 use Rattle.writing.specs.Writing.{placed, gather, line_of}
-use Rattle.writing.proofs.Writings.{natural-length, integer-length, gather_ext, line-one, line-two, line-three}
+use Rattle.writing.proofs.Writings.{natural-length, integer-length, gather_ext, line-one, line-two, line-three, WrittenSoFar, none_written, text-more, all_fit, next_fits}
 use Rattle.results.specs.Results.{leaves}
 use Rattle.transform.specs.Spectrum.{coefficient_of, spectrum_of}
-use Rattle.screen.specs.declared.Answer.{Answer}
-use Rattle.screen.specs.declared.Answer.TheVariants.{Done}
 use Rattle.transform.proofs.Spectra.{length-spectrum, nth-spectrum}
 use Rattle.circuit.specs.CircuitCall.{room_answer}
 use Rattle.circuit.proofs.CircuitLaws.{fault-spectrum-bounded}
@@ -43,6 +48,28 @@ use Rattle.report_lines.specs.ReportLines.{plan_word, label_word, refused_word, 
 use Rattle.report_lines.specs.Steps.{spectral_label_line, differ_at, spectral_covering}
 
 -- ---- how long lines are
+
+-- a refusal's number has at most two digits
+pub refusal-number-small : (r : Refusal) → refusal_number r < 100
+refusal-number-small TextTooLong = omega arith
+refusal-number-small (Line flaw line) = of-flaw flaw
+  where
+    of-flaw : (f : Flaw) → flaw_number f < 100
+    of-flaw Malformed = omega arith
+    of-flaw ValueOutOfRange = omega arith
+    of-flaw ReadsAhead = omega arith
+    of-flaw NoSuchLine = omega arith
+    of-flaw NotRising = omega arith
+    of-flaw NotAMark = omega arith
+    of-flaw NotInputs = omega arith
+refusal-number-small (TextGoesOn line) = omega arith
+refusal-number-small ShortBuffer = omega arith
+refusal-number-small WrongLength = omega arith
+refusal-number-small (OutOfRange index) = omega arith
+refusal-number-small (Indivisible index) = omega arith
+refusal-number-small WrongArgument = omega arith
+refusal-number-small (Silent fault) = omega arith
+refusal-number-small NoSet = omega arith
 
 pub refused-length : (number place : ℕ) → number < 100 → place < 1000 → length (refused_line number place) ≤ 15
 unfolding refused_line
@@ -105,6 +132,14 @@ pub refused-read : (number place : ℕ) → number < 100 → place < 1000 → li
 unfolding refused_line
 refused-read number place h k = rw (natural-bits number (omega (arith, h)), natural-bits place (omega (arith, k)))
 
+-- the line of a refusal, by what its methods give
+pub refusal-read : (r : Refusal) {number place : ℕ} → refusal_place r < 1000 → number ≡ refusal_number r → place ≡ refusal_place r
+    → line_of refused_word (to_z w32 number ∷ to_z w32 place ∷ []) ≡ refused_line (refusal_number r) (refusal_place r)
+refusal-read r k n p = rw (n, p) (refused-read (refusal_number r) (refusal_place r) (refusal-number-small r) k)
+
+pub refusal-length : (r : Refusal) → refusal_place r < 1000 → length (refused_line (refusal_number r) (refusal_place r)) ≤ 15
+refusal-length r k = refused-length (refusal_number r) (refusal_place r) (refusal-number-small r) k
+
 pub plan-read : (size : ℕ) → size < 10 → line_of plan_word (to_z w32 size ∷ []) ≡ plan_line size
 unfolding plan_line
 plan-read size h = rw (natural-bits size (omega (arith, h)))
@@ -142,12 +177,43 @@ module _ (sound faulted : List ℤ) (labels : List ℕ) (i : ℕ) (before : (x :
 
 -- ---- all labels' lines
 
-pub label-each : (sound : List ℤ) (labels : List ℕ) → Below (length sound) labels → length sound ≤ 256 → Within 15360 sound
-    → (i : ℕ) → i < length labels → length (spectral_label_line sound labels i) ≤ 17
-unfolding spectral_label_line
-label-each sound labels low few near i h =
-    let l = low i h in
-    label-length (get_or labels i 0) (nth sound (get_or labels i 0)) (omega (arith, l, few)) (near (get_or labels i 0) l)
+module _ (sound : List ℤ) (labels : List ℕ) (low : Below (length sound) labels) (small : length sound ≤ 256) (near : Within 15360 sound) where
+  label-each : (i : ℕ) → i < length labels → length (spectral_label_line sound labels i) ≤ 17
+  unfolding spectral_label_line
+  label-each i h =
+      let l = low i h in
+      label-length (get_or labels i 0) (nth sound (get_or labels i 0)) (omega (arith, l, small)) (near (get_or labels i 0) l)
+
+  label-reads : (i : ℕ) → i < length labels
+      → line_of label_word (to_z w32 (get_or labels i 0) ∷ to_z w32 (of_z w32 (nth sound (get_or labels i 0))) ∷ []) ≡ spectral_label_line sound labels i
+  unfolding spectral_label_line
+  label-reads i h =
+      let l = low i h in
+      label-read (get_or labels i 0) (nth sound (get_or labels i 0)) (omega (arith, l, small)) (near (get_or labels i 0) l)
+
+  module _ (at : ℕ) (out : List ℕ) (room : at + 17 * length labels ≤ length out) where
+    line-room : at + length labels * 17 ≤ length out
+    line-room = omega (arith, room)
+
+    labels-fit : at + length (gather (spectral_label_line sound labels) (length labels)) ≤ length out
+    labels-fit = all_fit 17 at (spectral_label_line sound labels) (length labels) out label-each line-room
+
+    pub no-label : WrittenSoFar at (spectral_label_line sound labels) (length labels) out 0 out at
+    no-label = none_written at (spectral_label_line sound labels) (length labels) out labels-fit
+
+    module _ {i : ℕ} {now : List ℕ} {end : ℕ} (w : WrittenSoFar at (spectral_label_line sound labels) (length labels) out i now end) (h : i < length labels) where
+      abbrev read : List ℕ
+      read = line_of label_word (to_z w32 (get_or labels i 0) ∷ to_z w32 (of_z w32 (nth sound (get_or labels i 0))) ∷ [])
+
+      pub label-fits : end + length read ≤ length now
+      label-fits =
+          let l = next_fits 17 at (spectral_label_line sound labels) (length labels) out label-each line-room w h in
+          read-room end read (spectral_label_line sound labels i) now (label-reads i h) (let e = label-each i h in omega (arith, l, e))
+
+      pub label-more : {r : ℕ} {new : List ℕ} → r ≡ end + length read → new ≡ placed end read now
+          → WrittenSoFar at (spectral_label_line sound labels) (length labels) out (i + 1) new r
+      label-more e f =
+          text-more at (spectral_label_line sound labels) (length labels) out labels-fit w h (read-written end read (spectral_label_line sound labels i) now (label-reads i h) (e, f))
 
 -- ---- the lines of a problem
 
@@ -224,28 +290,65 @@ module _ (p : Problem) (right : Proper p) (labels : List ℕ) (low : Below (2 ^ 
     unfolding fault_report_line
     fault-line-length = fault-length f L (coefficient_of F L) (omega (arith, h, right.faults-high)) (omega (arith, covering-low, few)) covering-near
 
-    -- the line with its numbers as read, from the spectra and the label that was found
-    module _ (sound faulted : List ℤ) (label : ℕ) (s : sound ≡ spectrum_of S) (t : faulted ≡ spectrum_of (rows_at p (f + 1))) (found : label ≡ spectral_covering sound faulted labels) where
+    -- the spectra, as the circuit call leaves that of the fault
+    module _ {answer : Answer} {sound faulted : List ℤ} (before : List ℤ) (s : sound ≡ spectrum_of S) (same : length before ≡ 2 ^ p.inputs) (room : answer ≡ room_answer p.inputs (length before))
+        (left : faulted ≡ leaves answer (spectrum_of (rows_at p (f + 1))) before) where
       faulted-is : faulted ≡ spectrum_of F
-      faulted-is = t ∙ ap (λ (k : ℕ). spectrum_of (rows_at p k)) (add-one f)
+      faulted-is =
+          let n = add-one f in
+          spectrum-left p.inputs (rows_at p (f + 1)) before same (ap (λ (k : ℕ). length (rows_at p k)) n ∙ long) room left ∙ ap (λ (k : ℕ). spectrum_of (rows_at p k)) n
 
-      covering-is : label ≡ L
-      covering-is = found ∙ ap₂ (λ (a b : List ℤ). spectral_covering a b labels) s faulted-is ∙ covering-same S F labels (long ∙ sym sound-long) low_rows
+      pub spectra-ready : Below (length sound) labels × (length faulted ≡ length sound)
+      spectra-ready =
+          let r = spectrum-ready 0 (omega arith) sound s in
+          let q = spectrum-ready (suc f) named faulted faulted-is in
+          (r.1, q.0 ∙ sym r.0)
 
-      value-is : nth faulted label ≡ coefficient_of F L
-      value-is = ap₂ nth faulted-is covering-is ∙ at-spectrum F L (omega (arith, covering-low, long))
+      -- the line with its numbers as read, with the label that was found
+      module _ {label : ℕ} (found : label ≡ spectral_covering sound faulted labels) where
+        covering-is : label ≡ L
+        covering-is = found ∙ ap₂ (λ (a b : List ℤ). spectral_covering a b labels) s faulted-is ∙ covering-same S F labels (long ∙ sym sound-long) low_rows
 
-      pub fault-read : (label < 256) × (label < length faulted)
-          × (line_of fault_word (to_z w32 (f + 1) ∷ to_z w32 label ∷ to_z w32 (of_z w32 (nth faulted label)) ∷ []) ≡ fault_report_line S p.faulted labels f)
-      unfolding fault_report_line
-      fault-read =
-          let e = ap length faulted-is ∙ length-spectrum F ∙ long in (
-            omega (arith, covering-is, covering-low, few),
-            omega (arith, covering-is, covering-low, e),
-            line_same (natural-bits (f + 1) (omega (arith, h, right.faults-high)) ∙ ap pos (add-one f))
-                (ap (to_z w32) covering-is ∙ natural-bits L (omega (arith, covering-low, few)))
-                (ap (λ (z : ℤ). to_z w32 (of_z w32 z)) value-is ∙ integer-read (coefficient_of F L) covering-near),
-          )
-        where
-          line_same : {a b d e g i : ℤ} → a ≡ b → d ≡ e → g ≡ i → line_of fault_word (a ∷ d ∷ g ∷ []) ≡ line_of fault_word (b ∷ e ∷ i ∷ [])
-          line_same x y z = cc
+        value-is : nth faulted label ≡ coefficient_of F L
+        value-is = ap₂ nth faulted-is covering-is ∙ at-spectrum F L (omega (arith, covering-low, long))
+
+        pub fault-read : (label < 256) × (label < length faulted)
+            × (line_of fault_word (to_z w32 (f + 1) ∷ to_z w32 label ∷ to_z w32 (of_z w32 (nth faulted label)) ∷ []) ≡ fault_report_line S p.faulted labels f)
+        unfolding fault_report_line
+        fault-read =
+            let e = ap length faulted-is ∙ length-spectrum F ∙ long in (
+              omega (arith, covering-is, covering-low, few),
+              omega (arith, covering-is, covering-low, e),
+              line_same (natural-bits (f + 1) (omega (arith, h, right.faults-high)) ∙ ap pos (add-one f))
+                  (ap (to_z w32) covering-is ∙ natural-bits L (omega (arith, covering-low, few)))
+                  (ap (λ (z : ℤ). to_z w32 (of_z w32 z)) value-is ∙ integer-read (coefficient_of F L) covering-near),
+            )
+          where
+            line_same : {a b d e g i : ℤ} → a ≡ b → d ≡ e → g ≡ i → line_of fault_word (a ∷ d ∷ g ∷ []) ≡ line_of fault_word (b ∷ e ∷ i ∷ [])
+            line_same x y z = cc
+
+  -- ---- all faults' lines
+
+  module _ (at : ℕ) (out : List ℕ) (room : at + 640 ≤ length out) where
+    abbrev line : ℕ → List ℕ
+    line = fault_report_line p.sound p.faulted labels
+
+    fault-room : at + length p.faulted * 20 ≤ length out
+    fault-room = omega (arith, right.faults-high, room)
+
+    faults-fit : at + length (gather line (length p.faulted)) ≤ length out
+    faults-fit = all_fit 20 at line (length p.faulted) out fault-line-length fault-room
+
+    pub no-fault : WrittenSoFar at line (length p.faulted) out 0 out at
+    no-fault = none_written at line (length p.faulted) out faults-fit
+
+    module _ {f : ℕ} {now : List ℕ} {end : ℕ} (w : WrittenSoFar at line (length p.faulted) out f now end) (h : f < length p.faulted) where
+      module _ (read : List ℕ) (same : read ≡ line f) where
+        pub fault-fits : end + length read ≤ length now
+        fault-fits =
+            let l = next_fits 20 at line (length p.faulted) out fault-line-length fault-room w h in
+            let e = fault-line-length f h in
+            read-room end read (line f) now same (omega (arith, l, e))
+
+        pub fault-more : {r : ℕ} {new : List ℕ} → r ≡ end + length read → new ≡ placed end read now → WrittenSoFar at line (length p.faulted) out (f + 1) new r
+        fault-more e g = text-more at line (length p.faulted) out faults-fit w h (read-written end read (line f) now same (e, g))

@@ -2,32 +2,40 @@
 --   quot-needs, quot_is, quot-kept, rem-zero, zero-rem    the division and the remainder as the machine has them
 --   unfit-left, unfit-whole                        of `unfit`: where something is left over, and where nothing is
 --   unfit-divides, unfit-inside                    a sum that fits divides, and its quotient is not outside
---   found-unfit, none-unfit                        what a loop that tests one sum after the other has found
---   divided-refused, divided-done, done-divided    of `divided_answer`: 11, and what Done means
+--   first-unfit-position                                 the first unfit sum is the library's position
+--   divided-done, done-divided                     of `divided_answer`: what Done means
 --   length-quotients, nth-quotients                of `quotients_of`: its length and its numbers
---   within-quotients                               their size, where every sum fits
+--   within-quotients, fit_within                   their size, where every sum fits
+--   quotient-fits, quotient-kept, quotients-written    they are written as they are
 use mathlib.Core.Path.{◌≡◌, refl, sym, ap, ap₂, ◌∙◌, subst⁻¹}
-use mathlib.Core.List.{List}
-use mathlib.Core.Bool.{true, false, not}
+use mathlib.Core.List.{List, ◌++◌}
+use mathlib.Core.Bool.{Bool, true, false, not, cond}
 use Prim.Native.Nat.{ℕ, zero, suc, ◌+◌, ◌/◌, ◌%◌, ◌^◌, ◌≤◌, ◌<◌, zero-le}
 use native.Mathlib.Nat.{lt_of_le_of_lt, div-le_self}
 use native.Mathlib.Omega.{arith}
 use lib.Dec.{eqb, ltb}
 use lib.IntN.{ℤ, pos, negsuc, neg_ℤ, nat_abs}
-use lib.ListN.{length}
+use lib.ListN.{length, drop}
 use lib.Signed.{mag, quot_z, rem_z, mag_rem}
-use mir.Syntax.{Width, w64}
+use mir.Syntax.{Width, w32, w64}
 use mir.Val.{SFits, hbits, to_z, of_z}
 use mir.ValLaws.{to_z-of_z, to_z_pos}
-use borrow.Author.Tests.{not-false, ltb-false, lt-ltb, le-ltb, eqb-true, eq-eqb, ne_eqb}
-use Rattle.integer.specs.Tab.{nth, Within}
+use borrow.Author.Tests.{not-false, ltb-false, le-ltb, eqb-true, eq-eqb, ne_eqb}
+use Rattle.std.proofs.Common.{Some, None}
+use Rattle.std.specs.List.{position, position_or_len}
+use Rattle.std.proofs.lemmas.List.Sums.{position_or_len_is}
+use Rattle.std.proofs.lemmas.Option.{none-some}
+use Rattle.std.proofs.lemmas.Bool.Decides.{nat_tests}
+use Rattle.integer.specs.First.{first_where}
+use Rattle.integer.specs.Tab.{tab, nth, Within}
+use Rattle.integer.proofs.Bounds.{sfits-abs, within_more}
 use Rattle.integer.proofs.Bools.{neither}
-use Rattle.integer.proofs.Firsts.{first-hit, first-none, first-all}
+use Rattle.integer.proofs.Firsts.{first-none, first-all, first-le, first-before, first-at}
 use Rattle.integer.proofs.Group.{nat_abs-neg}
 use Rattle.integer.proofs.Tabs.{length-tab, get_or-tab}
-use Rattle.screen.specs.declared.Answer.TheVariants.{Done, Refused}
-use Rattle.screen.specs.Answers.{outside}
+use Rattle.screen.specs.Answers.{Done, outside}
 use Rattle.screen.proofs.Screens.{outside-sizes, refuse-passed}
+use Rattle.results.specs.Results.{written}
 use Rattle.results.specs.Quotients.{quotient_of, unfit, unfit_at, first_unfit, divided_answer, quotient_at, quotients_of}
 
 -- One sum, as the machine divides it.
@@ -101,20 +109,15 @@ module _ (d : ℕ) (low high z : ℤ) where
 -- A list of sums.
 
 module _ (d : ℕ) (low high : ℤ) (sums : List ℤ) where
-  pub found-unfit : (i : ℕ) → i < length sums → ((x : ℕ) → x < i → unfit_at d low high sums x ≡ false) → unfit d low high (nth sums i) ≡ true → first_unfit d low high sums ≡ i
-  unfolding first_unfit unfit_at
-  found-unfit i h f e = first-hit (unfit_at d low high sums) (length sums) i h f e
-
   pub none-unfit : (i : ℕ) → i ≤ length sums → length sums ≤ i → ((x : ℕ) → x < i → unfit_at d low high sums x ≡ false) → first_unfit d low high sums ≡ i
   unfolding first_unfit
   none-unfit i h k f = first-none (unfit_at d low high sums) (length sums) (λ x b. f x (omega arith)) ∙ omega arith
 
-  pub unfit-back : SFits w64 low → SFits w64 high → first_unfit d (to_z w64 (of_z w64 low)) (to_z w64 (of_z w64 high)) sums ≡ first_unfit d low high sums
-  unfit-back a b = ap₂ (λ (y z : ℤ). first_unfit d y z sums) (to_z-of_z w64 low a) (to_z-of_z w64 high b)
-
-  pub divided-refused : first_unfit d low high sums < length sums → divided_answer d low high sums ≡ Refused 11 (first_unfit d low high sums)
-  unfolding divided_answer
-  divided-refused h = rw (lt-ltb (first_unfit d low high sums) (length sums) h)
+  pub first-unfit-position : first_unfit d low high sums ≡ position_or_len (unfit d low high) sums
+  unfolding first_unfit unfit_at
+  first-unfit-position =
+      let p : ℕ → Bool = unfit_at d low high sums in
+      sym (position_or_len_is (unfit d low high) sums (first_where p (length sums)) (pos 0) (first-le p (length sums)) (first-before p (length sums)) (first-at p (length sums)))
 
   -- every sum fits
   pub fits_all : length sums ≤ first_unfit d low high sums → (x : ℕ) → x < length sums → unfit_at d low high sums x ≡ false
@@ -147,3 +150,38 @@ unfolding unfit_at
 within-quotients d low high sums f x l =
     let h : x < length sums = omega (arith, length-quotients d sums) in
     subst⁻¹ (λ (y : ℤ). nat_abs y ≤ nat_abs low + nat_abs high) (nth-quotients d sums x h) (outside-sizes low high _ (unfit-inside d low high (nth sums x) (f x h)))
+
+-- a quotient that fits 32 bits is written as it is
+module _ (d : ℕ) (few : (1 ≤ d) × (d ≤ 2048)) (sums : List ℤ) (i : ℕ) (h : i < length sums) (fits : SFits w64 (nth sums i)) (w : Within 2147483647 (quotients_of d sums)) where
+  narrow : SFits w32 (quotient_of d (nth sums i))
+  narrow = let small = w i (omega (arith, length-quotients d sums)) in let e = ap nat_abs (nth-quotients d sums i h) in sfits-abs (omega arith)
+
+  kept : to_z w64 (of_z w64 (quot_z (to_z w64 (of_z w64 (nth sums i))) (to_z w64 d))) ≡ quotient_of d (nth sums i)
+  kept = quot-kept w64 (omega arith) (nth sums i) d fits.sfits few
+
+  pub quotient-fits : SFits w32 (to_z w64 (of_z w64 (quot_z (to_z w64 (of_z w64 (nth sums i))) (to_z w64 d))))
+  quotient-fits = subst⁻¹ (SFits w32) kept narrow
+
+  pub quotient-kept : to_z w32 (of_z w32 (to_z w64 (of_z w64 (quot_z (to_z w64 (of_z w64 (nth sums i))) (to_z w64 d))))) ≡ quotient_at d sums i
+  unfolding quotient_at
+  quotient-kept = ap (λ (y : ℤ). to_z w32 (of_z w32 y)) kept ∙ to_z-of_z w32 (quotient_of d (nth sums i)) narrow
+
+-- all are written, and after them stands what was lent
+pub quotients-written : (d : ℕ) (sums out : List ℤ) (i : ℕ) → i ≡ length sums → tab i (quotient_at d sums) ++ drop i out ≡ written (quotients_of d sums) out
+unfolding quotients_of
+quotients-written d sums out i e =
+    ap (λ (k : ℕ). tab k (quotient_at d sums) ++ drop k out) e
+    ∙ ap (λ (k : ℕ). quotients_of d sums ++ drop k out) (sym (length-quotients d sums))
+
+pub fit_within : (d : ℕ) (low high : ℤ) (sums : List ℤ) → position (unfit d low high) sums ≡ None → nat_abs low + nat_abs high ≤ 2147483647 → Within 2147483647 (quotients_of d sums)
+fit_within d low high sums e h =
+    within_more (quotients_of d sums) h (within-quotients d low high sums (fits_all d low high sums (rw first-unfit-position (none-le (position_or_len (unfit d low high) sums) (length sums) e))))
+  where
+    none-le : (i n : ℕ) → cond (ltb i n) (Some i) None ≡ None → n ≤ i
+    none-le i n = go (ltb i n) refl
+      where
+        go : (b : Bool) → ltb i n ≡ b → cond b (Some i) None ≡ None → n ≤ i
+        go true h e = absurd (none-some i (sym e))
+        go false h e = ltb-false i n h
+
+pub ruleset divided_is = (first-unfit-position, fit_within, nat_tests)

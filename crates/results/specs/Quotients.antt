@@ -3,9 +3,7 @@ use Rattle.std.specs.Prelude.{ℕ, ◌%◌, List, Bool, not, ◌||◌, ℤ, pos,
 use Rattle.std.specs.Int.Signed.{quot_z}
 use Rattle.integer.specs.First.{first_where}
 use Rattle.integer.specs.Tab.{tab, nth}
-use Rattle.screen.specs.Answers.{refuse_if, outside}
-use Rattle.screen.specs.declared.Answer.{Answer}
-use Rattle.screen.specs.declared.Answer.TheVariants.{Done}
+use Rattle.screen.specs.Answers.{Answer, Done, refuse_if, outside}
 
 -- the sum divided by d, rounded toward zero where it does not divide
 abbrev pub quotient_of : ℕ → ℤ → ℤ

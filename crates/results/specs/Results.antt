@@ -1,8 +1,7 @@
 -- What a call leaves in the lent result (document 01, "What is returned", "Spectrum"):
 --   "A refusal writes nothing." "Both write the list's length of 32-bit numbers into the lent result and no more."
 use Rattle.std.specs.Prelude.{List, ◌++◌, ℤ, length, drop}
-use Rattle.screen.specs.declared.Answer.{Answer}
-use Rattle.screen.specs.declared.Answer.TheVariants.{Done, Refused}
+use Rattle.screen.specs.Answers.{Answer, Done, Refused}
 
 -- the new numbers, and after them what was lent
 abbrev pub written : List ℤ → List ℤ → List ℤ

@@ -1,23 +1,22 @@
 -- The tests that every call on a list begins with:
 --   inputs-power, -most, -size, -is, power-few  of `inputs_of`: the list has 2 ^ k numbers, at most 2,048, and each k from 1 to 11 is found
 --   none_more                                   where the list has not 2 ^ (m + 1) numbers, fewer inputs are to be tried
---   outside_low, -high, -none                   of `outside`: by its two tests
+--   outside-none                                of `outside`: by its two tests
 --   outside-small, small-outside                not outside -B .. B means a size of at most B
 --   outside-sizes                               what is not outside low .. high is no larger than the two together
---   found-outside, none-outside                 what a loop that tests one number after the other has found
---   any-turn, any-all                           what a loop that tests every number has found
+--   fold-any, none_outside                      what testing every number has found
+--   first-position                              the first index is the library's position; `screen_is` has it with the tests on numbers
 --   screened-within, within-screened            no number outside -B .. B means a list within B
 --   refuse-passed                               where a test and those after it give Done, it does not hold, and they give Done
 --   Screened, screen-done, done-screen          what the answer Done of `screen_of` means
---   Ready, ready                                and what a call knows by it
+--   ready_between, ready                        and what a call knows by it
 --   screen-unsized, -wrong, -outside, -short    its refusals, in their order
 --   screen-not-11, screen-due                   11 is none of them, what is due counts only for right arguments
 --   first-passed, then-done                     tests after it; where they refuse nothing its answer stands
-use mathlib.Core.Path.{◌≡◌, refl, sym, ap, ap₂, ◌∙◌}
-use mathlib.Core.List.{List}
-use mathlib.Core.Bool.{Bool, true, false, not, cond, ◌||◌, or-true, or_assoc}
-use Prim.Native.Nat.{ℕ, zero, suc, ◌+◌, ◌^◌, ◌≤◌, ◌<◌}
-use native.Mathlib.Numerals.{add-one}
+use mathlib.Core.Path.{◌≡◌, refl, sym, ap, ◌∙◌, subst}
+use mathlib.Core.List.{List, [], ◌∷◌}
+use mathlib.Core.Bool.{Bool, true, false, not, cond, ◌||◌, or-false, or_assoc}
+use Prim.Native.Nat.{ℕ, zero, suc, ◌+◌, ◌^◌, ◌≤◌, ◌<◌, max}
 use native.Mathlib.Nat.{lt_of_not-le, two-pow-succ, pow-le-pow_right, one-le-pow}
 use native.Mathlib.Decide.{dec_le}
 use native.Mathlib.Omega.{arith}
@@ -26,18 +25,18 @@ use lib.IntN.{ℤ, pos, negsuc, neg_ℤ, nat_abs}
 use lib.ListN.{length}
 use lib.Pow.{pow_mono}
 use lib.Signed.{lt_z}
-use mir.Syntax.{w32}
-use mir.Val.{SFits, to_z, of_z}
-use mir.ValLaws.{to_z-of_z}
-use borrow.Author.Tests.{not-false, ltb-false, lt-ltb, le-ltb, eqb-true, eqb-false, eq-eqb, ne_eqb}
+use borrow.Author.Tests.{not-false, ltb-true, ltb-false, lt-ltb, le-ltb, eqb-true, eqb-false, eq-eqb, ne_eqb}
+use Rattle.integer.specs.First.{first_where}
 use Rattle.integer.specs.Tab.{nth, Within}
 use Rattle.integer.proofs.Bools.{clash, neither}
-use Rattle.integer.proofs.Firsts.{first-hit, first-none, first-all}
+use Rattle.integer.proofs.Firsts.{first-none, first-all, first-le, first-before, first-at}
 use Rattle.integer.proofs.Group.{nat_abs-neg}
-use Rattle.screen.specs.declared.Answer.{Answer}
-use Rattle.screen.specs.declared.Answer.TheVariants.{Done, Refused}
-use Rattle.screen.specs.Answers.{answer_number, and_then, refuse_if, inputs_to, inputs_of, outside, outside_at, first_outside, screen_of}
-use Rattle.screen.specs.Steps.{any_where, any_outside}
+use Rattle.screen.specs.Answers.{Answer, Done, Refused, answer_number, and_then, refuse_if, inputs_to, inputs_of, outside, outside_at, first_outside, screen_of, Ready}
+use Rattle.std.specs.List.{fold, list_any, position, position_or_len}
+use Rattle.std.proofs.Common.{Some, None}
+use Rattle.std.proofs.lemmas.List.Sums.{position_or_len_is, passes_at_first}
+use Rattle.std.proofs.lemmas.List.Folds.{list_any_at}
+use Rattle.std.proofs.lemmas.Bool.Decides.{nat_tests}
 
 -- The number of inputs.
 
@@ -107,14 +106,6 @@ pub outside-none : (low high z : ℤ) → lt_z z low ≡ false → lt_z high z �
 unfolding outside
 outside-none low high z a b = rw (a, b)
 
-pub outside_low : (low high z : ℤ) → lt_z z low ≡ true → outside low high z ≡ true
-unfolding outside
-outside_low low high z a = rw a
-
-pub outside_high : (low high z : ℤ) → lt_z high z ≡ true → outside low high z ≡ true
-unfolding outside
-outside_high low high z b = rw b (or-true (lt_z z low))
-
 size-high : (high : ℤ) (n : ℕ) → lt_z high (pos n) ≡ false → n ≤ nat_abs high
 size-high (pos h) n e = ltb-false h n e
 size-high (negsuc h) n e = clash e
@@ -126,6 +117,10 @@ size_low (negsuc l) n e = omega (arith, ltb-false l n e)
 pub outside-sizes : (low high z : ℤ) → outside low high z ≡ false → nat_abs z ≤ nat_abs low + nat_abs high
 outside-sizes low high (pos n) e = omega (arith, size-high high n (inside_both low high (pos n) e).1)
 outside-sizes low high (negsuc n) e = omega (arith, size_low low n (inside_both low high (negsuc n) e).0)
+
+outside_between : (low high z : ℤ) → outside low high z ≡ false → nat_abs z ≤ max (nat_abs low) (nat_abs high)
+outside_between low high (pos n) e = omega (arith, size-high high n (inside_both low high (pos n) e).1)
+outside_between low high (negsuc n) e = omega (arith, size_low low n (inside_both low high (negsuc n) e).0)
 
 pub outside-small : (B : ℕ) (z : ℤ) → outside (neg_ℤ (pos B)) (pos B) z ≡ false → nat_abs z ≤ B
 outside-small B (pos n) e = size-high (pos B) n (inside_both (neg_ℤ (pos B)) (pos B) (pos n) e).1
@@ -146,41 +141,34 @@ small-outside B z h = outside-none (neg_ℤ (pos B)) (pos B) z (small_low B z h)
 
 -- A list.
 
--- bounds that fit 32 bits are read back from their bits
-pub outside-back : (low high : ℤ) (l : List ℤ) → SFits w32 low → SFits w32 high → first_outside (to_z w32 (of_z w32 low)) (to_z w32 (of_z w32 high)) l ≡ first_outside low high l
-outside-back low high l a b = ap₂ (λ (y z : ℤ). first_outside y z l) (to_z-of_z w32 low a) (to_z-of_z w32 high b)
+fold-any : (p : ℤ → Bool) (any : Bool) (l : List ℤ) → fold (λ any z. any || p z) any l ≡ (any || list_any p l)
+fold-any p any [] = sym (or-false any)
+fold-any p any (z ∷ zs) = fold-any p (any || p z) zs ∙ or_assoc any (p z) (list_any p zs)
 
-module _ (low high : ℤ) (l : List ℤ) (i : ℕ) where
-  pub found-outside : i < length l → ((x : ℕ) → x < i → outside_at low high l x ≡ false) → outside low high (nth l i) ≡ true → first_outside low high l ≡ i
-  unfolding first_outside outside_at
-  found-outside h f e = first-hit (outside_at low high l) (length l) i h f e
-
-  pub none-outside : i ≤ length l → length l ≤ i → ((x : ℕ) → x < i → outside_at low high l x ≡ false) → first_outside low high l ≡ i
-  unfolding first_outside
-  none-outside h k f = first-none (outside_at low high l) (length l) (λ x b. f x (omega arith)) ∙ omega arith
-
-pub any-turn : (low high : ℤ) (l : List ℤ) (i : ℕ) {z : ℤ} {any : Bool} → z ≡ nth l i → any ≡ any_where (outside_at low high l) i
-    → ((any || lt_z z low) || lt_z high z) ≡ any_where (outside_at low high l) (i + 1)
-unfolding any_where outside_at outside
-any-turn low high l i {z} {any} ez e =
-    or_assoc any (lt_z z low) (lt_z high z)
-    ∙ ap₂ (λ (t : Bool) (y : ℤ). t || outside low high y) e ez
-    ∙ ap (any_where (outside_at low high l)) (sym (add-one i))
-
-none-where : (p : ℕ → Bool) (n : ℕ) → any_where p n ≡ false → (x : ℕ) → x < n → p x ≡ false
-unfolding any_where
-none-where p zero e x h = absurd (omega arith)
-none-where p (suc n) e x h =
-    let f = neither (any_where p n) (p n) e in
-    pick (none-where p n f.0) f.1 (dec_le n x)
+pub none_outside : (low high : ℤ) (l : List ℤ) → fold (λ any z. any || outside low high z) false l ≡ false → position (outside low high) l ≡ None
+none_outside low high l e = pick (ltb i (length l)) refl
   where
-    pick : ((y : ℕ) → y < n → p y ≡ false) → p n ≡ false → Dec (n ≤ x) → p x ≡ false
-    pick ih e (yes g) = let k : x ≡ n = omega arith in ap p k ∙ e
-    pick ih e (no g) = ih x (lt_of_not-le g)
+    p : ℤ → Bool
+    p = outside low high
 
-pub any-all : (low high : ℤ) (l : List ℤ) → any_outside low high l ≡ false → first_outside low high l ≡ length l
-unfolding any_outside first_outside
-any-all low high l e = first-none (outside_at low high l) (length l) (none-where (outside_at low high l) (length l) e)
+    i : ℕ
+    i = position_or_len p l
+
+    pick : (b : Bool) → ltb i (length l) ≡ b → cond b (Some i) None ≡ None
+    pick true h = let k = ltb-true i (length l) h in clash (sym (list_any_at p l i (pos 0) k (passes_at_first p l (pos 0) k)) ∙ sym (fold-any p false l) ∙ e)
+    pick false h = refl
+
+pub first-position : (low high : ℤ) (l : List ℤ) → first_outside low high l ≡ position_or_len (outside low high) l
+unfolding first_outside outside_at
+first-position low high l =
+    let p : ℕ → Bool = outside_at low high l in
+    sym (position_or_len_is (outside low high) l (first_where p (length l)) (pos 0) (first-le p (length l)) (first-before p (length l)) (first-at p (length l)))
+
+pub ruleset screen_is = (first-position, nat_tests)
+
+between-within : (low high : ℤ) (l : List ℤ) → length l ≤ first_outside low high l → Within (max (nat_abs low) (nat_abs high)) l
+unfolding first_outside outside_at
+between-within low high l h x k = outside_between low high (nth l x) (first-all (outside_at low high l) (length l) h x k)
 
 pub screened-within : (B : ℕ) (l : List ℤ) → length l ≤ first_outside (neg_ℤ (pos B)) (pos B) l → Within B l
 unfolding first_outside outside_at
@@ -240,26 +228,23 @@ unfolding screen_of
 screen-due low high true l room e = ap (λ (due : ℕ). screen_of low high true l room due) (e refl)
 screen-due low high false l room e = refl
 
--- what a call knows of a list from -B to B that the screen passed
-pub record Ready (B : ℕ) (test : Bool) (l : List ℤ) (room due : ℕ) : Type 0 where
-  pub few : length l ≤ 2048
-  pub most : inputs_of (length l) ≤ 11
-  pub power : length l ≡ 2 ^ inputs_of (length l)
-  pub within : Within B l
-  pub right : test ≡ true
-  pub fits : due ≤ room
-
-pub ready : (B : ℕ) (test : Bool) (l : List ℤ) (room due : ℕ) → screen_of (neg_ℤ (pos B)) (pos B) test l room due ≡ Done → Ready B test l room due
-ready B test l room due e =
-    let s = screen-done (neg_ℤ (pos B)) (pos B) test l room due e in
+pub ready_between : (low high : ℤ) (test : Bool) (l : List ℤ) (room due : ℕ) → screen_of low high test l room due ≡ Done → Ready (max (nat_abs low) (nat_abs high)) test l room due
+ready_between low high test l room due e =
+    let s = screen-done low high test l room due e in
     record {
       few = inputs-size (length l) s.sized;
       most = inputs-most (length l);
       power = inputs-power (length l) s.sized;
-      within = screened-within B l s.inside;
+      within = between-within low high l s.inside;
       right = s.right;
       fits = s.fits;
     }
+
+pub ready : (B : ℕ) (test : Bool) (l : List ℤ) (room due : ℕ) → screen_of (neg_ℤ (pos B)) (pos B) test l room due ≡ Done → Ready B test l room due
+ready B test l room due e = subst (λ (C : ℕ). Ready C test l room due) (both-sizes B) (ready_between (neg_ℤ (pos B)) (pos B) test l room due e)
+  where
+    both-sizes : (B : ℕ) → max (nat_abs (neg_ℤ (pos B))) (nat_abs (pos B)) ≡ B
+    both-sizes B = omega (arith, nat_abs-neg (pos B))
 
 pub done-screen : (low high : ℤ) (test : Bool) (l : List ℤ) (room due : ℕ) → Screened low high test l room due → screen_of low high test l room due ≡ Done
 unfolding screen_of

@@ -1,11 +1,20 @@
 -- What a call on a list answers, and the tests that every such call begins with (document 01, "What is returned"):
 --   "Calls on lists test 9, 12, 10, 8, 11."
-use Rattle.std.specs.Prelude.{ℕ, zero, suc, ◌^◌, List, Bool, not, cond, ◌||◌, ℤ, pos, neg_ℤ, eqb, ltb, length}
+use Rattle.std.specs.Prelude.{◌≡◌, ◌≤◌, true, ℕ, zero, suc, ◌^◌, List, Bool, not, cond, ◌||◌, ℤ, pos, neg_ℤ, eqb, ltb, length, Result}
 use Rattle.std.specs.Int.Signed.{lt_z}
 use Rattle.integer.specs.First.{first_where}
-use Rattle.integer.specs.Tab.{nth}
-use Rattle.screen.specs.declared.Answer.{Answer}
-use Rattle.screen.specs.declared.Answer.TheVariants.{Done, Refused}
+use Rattle.integer.specs.Tab.{nth, Within}
+use Rattle.refusals.specs.declared.Refusal.{Refusal}
+use Rattle.refusals.specs.Refusals.{told}
+
+-- nothing to tell, or document 01's number and place of the refusal
+pub data Answer : Type 0 where
+  Done : Answer
+  Refused : ℕ → ℕ → Answer
+
+-- what an answer of the code says, whatever its value is
+abbrev pub answer_of : {A : Type 0} → Result A Refusal → Answer
+answer_of = told (λ done. Done) Refused
 
 -- document 01's number and place of an answer
 abbrev pub answer_number : Answer → ℕ
@@ -55,3 +64,12 @@ screen_of low high right l room due =
     (refuse_if (not right) 12 0
     (refuse_if (ltb (first_outside low high l) (length l)) 10 (first_outside low high l)
     (refuse_if (ltb room due) 8 0 Done)))
+
+-- what is known of a list from -B to B that passed, and of its call's arguments
+pub record Ready (B : ℕ) (test : Bool) (l : List ℤ) (room due : ℕ) : Type 0 where
+  pub few : length l ≤ 2048
+  pub most : inputs_of (length l) ≤ 11
+  pub power : length l ≡ 2 ^ inputs_of (length l)
+  pub within : Within B l
+  pub right : test ≡ true
+  pub fits : due ≤ room

@@ -4,23 +4,23 @@
 --   took, left_out              more places: place i where those after it have a set for what it leaves missing, and not where they have none
 --   size-took, size-left-out    the plan at a size that has a set, and at one that has none
 use mathlib.Core.Path.{◌≡◌, refl, sym, ap, ap₂, ◌∙◌}
-use mathlib.Core.Bool.{Bool, true, false, not, cond, ◌&&◌}
+use mathlib.Core.Bool.{Bool, true, false, not, cond}
 use mathlib.Core.List.{List, [], ◌∷◌, ◌++◌, map}
 use mathlib.Core.Option.{Option, none, some}
 use Prim.Native.Nat.{ℕ, zero, suc, ◌+◌, ◌-◌, ◌<◌, ◌≤◌}
 use native.Mathlib.Numerals.{add-one, sub-one}
 use native.Mathlib.Omega.{arith}
 use lib.Dec.{eqb}
-use lib.ListN.{length, length-map, get_or}
-use borrow.Author.Tests.{not-true, not-false}
+use lib.ListN.{length, length-map, get_or, get_or-append, drop}
+use lib.Seq.{get_or-drop, drop-drop, drop-append_seam}
+use Rattle.std.proofs.lemmas.Grind.{common_steps}
+use borrow.Author.Tests.{not-true, not-false, ne_eqb}
 use Rattle.integer.specs.Counting.{count, up_to}
 use Rattle.integer.specs.Mask.{without}
-use Rattle.integer.proofs.Bools.{both}
 use Rattle.search.specs.Sets.{sets_of, first_of, or_else, plan_from}
-use Rattle.search.specs.Steps.{clears, sought, named_of, labels_at, choice_of, set_at}
-use Rattle.search.specs.declared.Choice.{Choice}
-use Rattle.search.specs.declared.Choice.TheVariants.{Nothing, Chosen}
-use Rattle.search.specs.declared.Labels.{Labels}
+use Rattle.std.specs.Prelude.{Option as Found, None, Some}
+use Rattle.search.specs.Sets.{four_of}
+use Rattle.search.specs.Steps.{clears, sought, labels_at, choice_of, set_at}
 use Rattle.search.proofs.SetsBySize.{first_found, sets-length, plan-step}
 
 abbrev push : ℕ → Option (List ℕ) → Option (List ℕ)
@@ -85,44 +85,65 @@ module _ (masks : List ℕ) (i : ℕ) where
     -- the labels of the places
     module _ (labels : List ℕ) where
       pub had : (m : ℕ) (t : Bool) → t ≡ not (eqb (without m (get_or masks i 0)) 0) → t ≡ false
-          → Chosen (record { first = get_or labels i 0; second = 0; third = 0; fourth = 0 }) ≡ choice_of labels (sought masks i 1 m)
+          → Some (get_or labels i 0 ∷ 0 ∷ 0 ∷ 0 ∷ []) ≡ choice_of labels (sought masks i 1 m)
       had m t e z = sym (ap (choice_of labels) (by_mask m false (sym e ∙ z)))
 
-      module _ (k m : ℕ) (some_left : 1 ≤ k) (r : Choice) (later : r ≡ choice_of labels (sought masks (i + 1) (k - 1) (without m (get_or masks i 0)))) where
-        pub took : (s : Labels) → r ≡ Chosen s
-            → Chosen (record { first = get_or labels i 0; second = s.first; third = s.second; fourth = s.third }) ≡ choice_of labels (sought masks i k m)
-        took s e = go (sought masks (i + 1) (k - 1) (without m (get_or masks i 0))) (sym e ∙ later) ∙ sym (ap (choice_of labels) (sought-here k m some_left))
+      module _ (k m : ℕ) (some_left : 1 ≤ k) (r : Found (List ℕ)) (later : r ≡ choice_of labels (sought masks (i + 1) (k - 1) (without m (get_or masks i 0)))) where
+        pub took : (next : List ℕ) → r ≡ Some next
+            → Some (get_or labels i 0 ∷ get_or next 0 0 ∷ get_or next 1 0 ∷ get_or next 2 0 ∷ []) ≡ choice_of labels (sought masks i k m)
+        took next e = go (sought masks (i + 1) (k - 1) (without m (get_or masks i 0))) (sym e ∙ later) ∙ sym (ap (choice_of labels) (sought-here k m some_left))
           where
-            go : (o : Option (List ℕ)) → Chosen s ≡ choice_of labels o
-                → Chosen (record { first = get_or labels i 0; second = s.first; third = s.second; fourth = s.third })
-                ≡ choice_of labels (or_else (push i o) (sought masks (i + 1) k m))
-            go none h = let z : ◌≡◌ {A = ℕ} 0 1 = cc in absurd (omega arith)
+            go : (o : Option (List ℕ)) → Some next ≡ choice_of labels o
+                → Some (get_or labels i 0 ∷ get_or next 0 0 ∷ get_or next 1 0 ∷ get_or next 2 0 ∷ []) ≡ choice_of labels (or_else (push i o) (sought masks (i + 1) k m))
+            go none h = cc
             go (some is) h =
-                let same : s ≡ named_of (labels_at labels is) = cc in
-                ap (λ (t : Labels). Chosen (record { first = get_or labels i 0; second = t.first; third = t.second; fourth = t.third })) same
+                let same : next ≡ four_of (labels_at labels is) = cc in
+                ap (λ (l : List ℕ). Some (get_or labels i 0 ∷ get_or l 0 0 ∷ get_or l 1 0 ∷ get_or l 2 0 ∷ [])) same
 
-        pub left_out : r ≡ Nothing → sought masks i k m ≡ sought masks (i + 1) k m
+        pub left_out : r ≡ None → sought masks i k m ≡ sought masks (i + 1) k m
         left_out e = sought-here k m some_left ∙ go (sought masks (i + 1) (k - 1) (without m (get_or masks i 0))) (sym e ∙ later)
           where
-            go : (o : Option (List ℕ)) → Nothing ≡ choice_of labels o → or_else (push i o) (sought masks (i + 1) k m) ≡ sought masks (i + 1) k m
+            go : (o : Option (List ℕ)) → None ≡ choice_of labels o → or_else (push i o) (sought masks (i + 1) k m) ≡ sought masks (i + 1) k m
             go none h = refl
-            go (some is) h = let z : ◌≡◌ {A = ℕ} 0 1 = cc in absurd (omega arith)
+            go (some is) h = cc
 
-pub four-lacked : (masks : List ℕ) (i m : ℕ) (a b c d : Bool) → i + 4 ≤ length masks → a ≡ not (eqb (without m (get_or masks i 0)) 0)
-    → b ≡ not (eqb (without m (get_or masks (i + 1) 0)) 0) → c ≡ not (eqb (without m (get_or masks (i + 2) 0)) 0)
-    → d ≡ not (eqb (without m (get_or masks (i + 3) 0)) 0) → (a && b && c && d) ≡ true → sought masks i 1 m ≡ sought masks (i + 4) 1 m
-four-lacked masks i m a b c d h ea eb ec ed t =
-    let abc = both (a && b && c) d t in
-    let ab = both (a && b) c abc.0 in
-    let one = both a b ab.0 in
-    lacked masks i (omega arith) m a ea one.0
-    ∙ lacked masks (i + 1) (omega arith) m b eb one.1 ∙ ap (λ (j : ℕ). sought masks j 1 m) (omega arith)
-    ∙ lacked masks (i + 2) (omega arith) m c ec ab.1 ∙ ap (λ (j : ℕ). sought masks j 1 m) (omega arith)
-    ∙ lacked masks (i + 3) (omega arith) m d ed abc.1 ∙ ap (λ (j : ℕ). sought masks j 1 m) (omega arith)
+-- four places of which none has all that is missing
+pub four-lacked : (masks : List ℕ) (i m : ℕ) → i + 4 ≤ length masks → ((k : ℕ) → k < 4 → without m (get_or masks (i + k) 0) ≡ 0 → ⊥)
+    → sought masks i 1 m ≡ sought masks (i + 4) 1 m
+four-lacked masks i m h lack =
+    pass i 0 (omega arith) (omega arith)
+    ∙ pass (i + 1) 1 (omega arith) refl ∙ next (i + 1) (i + 2) (omega arith)
+    ∙ pass (i + 2) 2 (omega arith) refl ∙ next (i + 2) (i + 3) (omega arith)
+    ∙ pass (i + 3) 3 (omega arith) refl ∙ next (i + 3) (i + 4) (omega arith)
+  where
+    next : (j n : ℕ) → j + 1 ≡ n → sought masks (j + 1) 1 m ≡ sought masks n 1 m
+    next j n e = ap (λ (p : ℕ). sought masks p 1 m) e
+
+    pass : (j k : ℕ) → k < 4 → j ≡ i + k → sought masks j 1 m ≡ sought masks (j + 1) 1 m
+    pass j k l e =
+        let none_here = λ (z : without m (get_or masks j 0) ≡ 0). lack k l (ap (λ (n : ℕ). without m (get_or masks n 0)) (sym e) ∙ z) in
+        lacked masks j (omega arith) m true (rw (ne_eqb (without m (get_or masks j 0)) 0 none_here)) refl
+
+-- the next four places as a chunk of what is left
+pub chunk-passed : (masks : List ℕ) (place m : ℕ) (four rest : List ℕ) → drop place masks ≡ four ++ rest → length four ≡ 4
+    → ((k : ℕ) → k < 4 → without m (get_or four k 0) ≡ 0 → ⊥)
+    → (rest ≡ drop (place + 4) masks) × (place + 4 ≤ length masks) × (sought masks place 1 m ≡ sought masks (place + 4) 1 m)
+chunk-passed masks place m four rest e long lack = (after, inside, four-lacked masks place m inside here)
+  where
+    inside : place + 4 ≤ length masks
+    inside = grind (arith, common_steps, ap length e)
+
+    after : rest ≡ drop (place + 4) masks
+    after = sym (ap (drop 4) e ∙ rw (sym long) (drop-append_seam four rest)) ∙ drop-drop 4 place masks
+
+    here : (k : ℕ) → k < 4 → without m (get_or masks (place + k) 0) ≡ 0 → ⊥
+    here k h z =
+        let same : get_or masks (place + k) 0 ≡ get_or four k 0 = sym (get_or-drop place masks k 0) ∙ ap (λ (l : List ℕ). get_or l k 0) e ∙ get_or-append four rest 0 k (omega arith) in
+        lack k h (ap (without m) (sym same) ∙ z)
 
 -- ---- at a size
 
-module _ (masks labels : List ℕ) (m cap k : ℕ) (within : k ≤ cap) (r : Choice) (found : r ≡ choice_of labels (sought masks 0 k m)) where
+module _ (masks labels : List ℕ) (m cap k : ℕ) (within : k ≤ cap) (r : Found (List ℕ)) (found : r ≡ choice_of labels (sought masks 0 k m)) where
   abbrev plans : ℕ → Option (List ℕ)
   plans j = plan_from (clears masks m) (up_to (length masks)) j (cap + 1 - j)
 
@@ -133,22 +154,22 @@ module _ (masks labels : List ℕ) (m cap k : ℕ) (within : k ≤ cap) (r : Cho
   unfolding sought up_to
   found-sets = found ∙ ap (λ (n : ℕ). choice_of labels (first_of (clears masks m) (sets_of k (count 0 n)))) (omega arith)
 
-  pub size-took : (s : Labels) → r ≡ Chosen s → record { size = k; labels = s.first ∷ s.second ∷ s.third ∷ s.fourth ∷ [] } ≡ set_at labels (plans k)
-  size-took s e =
+  pub size-took : (four : List ℕ) → r ≡ Some four → Some (record { size = k; labels = four }) ≡ set_at labels (plans k)
+  size-took four e =
       go sets (λ x h. sets-length k (up_to (length masks)) x (first_found (clears masks m) (sets_of k (up_to (length masks))) x h).0) (sym e ∙ found-sets)
       ∙ sym (ap (set_at labels) (plan-step (clears masks m) (up_to (length masks)) cap k within))
     where
-      go : (o : Option (List ℕ)) → ((x : List ℕ) → o ≡ some x → length x ≡ k) → Chosen s ≡ choice_of labels o
-          → record { size = k; labels = s.first ∷ s.second ∷ s.third ∷ s.fourth ∷ [] } ≡ set_at labels (or_else o (plans (k + 1)))
-      go none sized h = let z : ◌≡◌ {A = ℕ} 0 1 = cc in absurd (omega arith)
+      go : (o : Option (List ℕ)) → ((x : List ℕ) → o ≡ some x → length x ≡ k) → Some four ≡ choice_of labels o
+          → Some (record { size = k; labels = four }) ≡ set_at labels (or_else o (plans (k + 1)))
+      go none sized h = cc
       go (some x) sized h =
-          let same : s ≡ named_of (labels_at labels x) = cc in
+          let same : four ≡ four_of (labels_at labels x) = cc in
           let size : k ≡ length (labels_at labels x) = sym (length-map x (λ i. get_or labels i 0) ∙ sized x refl) in
-          ap₂ (λ (j : ℕ) (t : Labels). record { size = j; labels = t.first ∷ t.second ∷ t.third ∷ t.fourth ∷ [] }) size same
+          ap₂ (λ (j : ℕ) (l : List ℕ). Some (record { size = j; labels = l })) size same
 
-  pub size-left-out : r ≡ Nothing → plans k ≡ plans (k + 1)
+  pub size-left-out : r ≡ None → plans k ≡ plans (k + 1)
   size-left-out e = plan-step (clears masks m) (up_to (length masks)) cap k within ∙ go sets (sym e ∙ found-sets)
     where
-      go : (o : Option (List ℕ)) → Nothing ≡ choice_of labels o → or_else o (plans (k + 1)) ≡ plans (k + 1)
+      go : (o : Option (List ℕ)) → None ≡ choice_of labels o → or_else o (plans (k + 1)) ≡ plans (k + 1)
       go none h = refl
-      go (some x) h = let z : ◌≡◌ {A = ℕ} 0 1 = cc in absurd (omega arith)
+      go (some x) h = cc

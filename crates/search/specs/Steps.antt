@@ -1,13 +1,10 @@
 -- What private functions and the leaf `find` answer, by masks: fault f is bit f.
-use Rattle.std.specs.Prelude.{Bool, List, [], ◌∷◌, map, ◌≡◌, ℕ, ◌-◌, ◌<◌, ◌≤◌, eqb, length, get_or, drop}
+use Rattle.std.specs.Prelude.{Bool, Option as Found, None, Some, List, [], ◌∷◌, map, ◌≡◌, ℕ, ◌-◌, ◌<◌, ◌≤◌, eqb, length, get_or, drop}
 use Rattle.std.proofs.Math.Option.{Option, none, some}
 use Rattle.integer.specs.Counting.{count}
 use Rattle.integer.specs.Mask.{without, union_of}
 use Rattle.search.specs.Sets.{sets_of, first_of, four_of}
-use Rattle.search.specs.declared.Choice.{Choice}
-use Rattle.search.specs.declared.Choice.TheVariants.{Nothing, Chosen}
 use Rattle.search.specs.declared.LabelSet.{LabelSet}
-use Rattle.search.specs.declared.Labels.{Labels}
 
 -- nothing is missing when the masks at the places are taken away
 unfoldable pub clears : List ℕ → ℕ → List ℕ → Bool
@@ -27,20 +24,18 @@ pub record Unions (masks rest : List ℕ) : Type 0 where
 abbrev pub labels_at : List ℕ → List ℕ → List ℕ
 labels_at labels places = map (λ i. get_or labels i 0) places
 
-abbrev pub named_of : List ℕ → Labels
-named_of xs = record { first = get_or xs 0 0; second = get_or xs 1 0; third = get_or xs 2 0; fourth = get_or xs 3 0 }
+-- the labels at the places, with 0 past the last
+abbrev pub choice_of : List ℕ → Option (List ℕ) → Found (List ℕ)
+choice_of labels none = None
+choice_of labels (some places) = Some (four_of (labels_at labels places))
 
-abbrev pub choice_of : List ℕ → Option (List ℕ) → Choice
-choice_of labels none = Nothing
-choice_of labels (some places) = Chosen (named_of (labels_at labels places))
-
-abbrev pub set_of : Option (List ℕ) → LabelSet
-set_of none = record { size = 0; labels = four_of [] }
-set_of (some xs) = record { size = length xs; labels = four_of xs }
+abbrev pub set_of : Option (List ℕ) → Found LabelSet
+set_of none = None
+set_of (some xs) = Some (record { size = length xs; labels = four_of xs })
 
 abbrev pub chosen_at : List ℕ → Option (List ℕ) → Option (List ℕ)
 chosen_at labels none = none
 chosen_at labels (some places) = some (labels_at labels places)
 
-abbrev pub set_at : List ℕ → Option (List ℕ) → LabelSet
+abbrev pub set_at : List ℕ → Option (List ℕ) → Found LabelSet
 set_at labels o = set_of (chosen_at labels o)

@@ -1,9 +1,9 @@
 -- Lines read one after the other by a loop, over any kind of item:
---   ReadSoFar                      the invariant: what all lines say is what the lines from here on say, after those read so far
+--   flaw-some, refusal-numbered      the number of a flaw or a refusal is not 0
+--   ReadSoFar                    the invariant: what all lines say is what the lines from here on say, after those read so far
 --   begun, turned                it holds at first, and after a line that is accepted
 --   missing, declined, finished  what the loop answers at its three ends
---   Stage                        the answer of a stage of the parser: lines of one kind, from an index on
---   stage-refused, stage-read    what they say, by the answer's number
+--   lines-told, lines-stored     what a call of `read_lines` on the front of an array answers, and leaves there
 use mathlib.Core.Path.{◌≡◌, refl, sym, ap, ap₂, ◌∙◌}
 use mathlib.Core.List.{List, [], ◌∷◌, ◌++◌}
 use Prim.Native.Nat.{ℕ, suc, ◌+◌, ◌-◌, ◌<◌, ◌≤◌, zero-le}
@@ -11,114 +11,125 @@ use native.Mathlib.Nat.{sub-zero, add-zero}
 use native.Mathlib.Numerals.{add-one}
 use native.Mathlib.Omega.{arith}
 use lib.ListN.{length, take, drop, set, length-set}
-use lib.Seq.{take-suc-set, length-take-le}
-use borrow.Author.Tests.{eq-eqb, ne_eqb}
-use Rattle.text.specs.Text.{index_of, before, after, line_end}
-use Rattle.text.proofs.Parts.{cut-before, cut-after, cut_has, cut-none}
+use lib.Seq.{take-suc-set, length-take-le, take-append_seam}
+use Rattle.std.proofs.lemmas.List.{take_all}
+use borrow.Author.Tests.{ne_eqb}
+use Rattle.refusals.specs.Refusals.{flaw_number, refusal_number, refusal_place}
+use Rattle.refusals.specs.declared.Flaw.{Flaw}
+use Rattle.refusals.specs.declared.Flaw.TheVariants.{Malformed, OutOfRange as ValueOutOfRange, ReadsAhead, NoSuchLine, NotRising, NotAMark, NotInputs}
+use Rattle.refusals.specs.declared.Refusal.{Refusal}
+use Rattle.refusals.specs.declared.Refusal.TheVariants.{TextTooLong, Line, TextGoesOn, ShortBuffer, WrongLength, OutOfRange, Indivisible, WrongArgument, Silent, NoSet}
+use Rattle.text.specs.Text.{before, after, line_end}
 use Rattle.fields.specs.Fields.{unless}
-use Rattle.sections.specs.Sections.{Read, items, line_refused, line_refusal, lines_of, read_of}
+use Rattle.sections.specs.Sections.{Read, items, line_refused, line_refusal, lines_of, LineAt, NoLine}
 
-module _ {A : Type 0} (text : List ℕ) (count number place at : ℕ) (l : List A) where
-  read-refused : (number ≡ 0 → ⊥) → read_of text count number place at l ≡ line_refused number place
-  unfolding read_of
-  read-refused n = rw (ne_eqb number 0 n)
+pub flaw-some : (f : Flaw) → flaw_number f ≡ 0 → ⊥
+flaw-some Malformed e = omega arith
+flaw-some ValueOutOfRange e = omega arith
+flaw-some ReadsAhead e = omega arith
+flaw-some NoSuchLine e = omega arith
+flaw-some NotRising e = omega arith
+flaw-some NotAMark e = omega arith
+flaw-some NotInputs e = omega arith
 
-  read_done : number ≡ 0 → read_of text count number place at l ≡ items (take count l) (drop at text)
-  unfolding read_of
-  read_done e = rw (eq-eqb number 0 e)
+pub refusal-numbered : (r : Refusal) → refusal_number r ≡ 0 → ⊥
+refusal-numbered TextTooLong e = omega arith
+refusal-numbered (Line flaw line) e = flaw-some flaw e
+refusal-numbered (TextGoesOn line) e = omega arith
+refusal-numbered ShortBuffer e = omega arith
+refusal-numbered WrongLength e = omega arith
+refusal-numbered (OutOfRange index) e = omega arith
+refusal-numbered (Indivisible index) e = omega arith
+refusal-numbered WrongArgument e = omega arith
+refusal-numbered (Silent fault) e = omega arith
+refusal-numbered NoSet e = omega arith
 
--- `count` lines from index `from` on, the first of which is line `first` of the text
-pub record Stage {A : Type 0} (refusal : ℕ → List ℕ → ℕ) (item : List ℕ → A) (text : List ℕ) (from first count : ℕ) : Type 0 where
-  pub number : ℕ
-  pub place : ℕ
-  pub at : ℕ
-  pub said : List A
-  pub is : read_of text count number place at said ≡ lines_of refusal item count first (drop from text) []
+-- the number of a line by its own tests, and of one that is missing
+module _ (refusal : List ℕ → ℕ) (text : List ℕ) (at : ℕ) where
+  pub line-number : (line : List ℕ) (next : ℕ) → LineAt text at line next → line_refusal refusal (drop at text) ≡ refusal line
+  unfolding unless
+  line-number line next h = rw (h.0, h.1)
 
-module _ {A : Type 0} {refusal : ℕ → List ℕ → ℕ} {item : List ℕ → A} {text : List ℕ} {from first count : ℕ} (s : Stage refusal item text from first count) where
-  pub stage-refused : (s.number ≡ 0 → ⊥) → lines_of refusal item count first (drop from text) [] ≡ line_refused s.number s.place
-  stage-refused n = sym s.is ∙ read-refused text count s.number s.place s.at s.said n
-
-  pub stage-read : s.number ≡ 0 → lines_of refusal item count first (drop from text) [] ≡ items (take count s.said) (drop s.at text)
-  stage-read z = sym s.is ∙ read_done text count s.number s.place s.at s.said z
+  pub missing-number : (place : ℕ) (r : Refusal) → NoLine text at place r → line_refusal refusal (drop at text) ≡ refusal_number r
+  unfolding unless
+  missing-number place r h = rw (h.0, h.1)
 
 module _ {A : Type 0} (refusal : ℕ → List ℕ → ℕ) (item : List ℕ → A) where
   -- one line, by the number that it is refused by
-  module _ (left place number : ℕ) (rest : List ℕ) (read : List A) (by : line_refusal (refusal (length read)) rest ≡ number) where
-    pub line-refused : (number ≡ 0 → ⊥) → lines_of refusal item (suc left) place rest read ≡ line_refused number place
+  module _ (left place : ℕ) (rest : List ℕ) (read : List A) where
+    line-refused : (number : ℕ) → line_refusal (refusal (length read)) rest ≡ number → (number ≡ 0 → ⊥) → lines_of refusal item (suc left) place rest read ≡ line_refused number place
     unfolding lines_of
-    line-refused n = rw (by, ne_eqb number 0 n)
+    line-refused number by n = rw (by, ne_eqb number 0 n)
 
-    pub line_read : number ≡ 0 → lines_of refusal item (suc left) place rest read ≡ lines_of refusal item left (suc place) (after line_end rest) (read ++ (item (before line_end rest) ∷ []))
+    line_read : line_refusal (refusal (length read)) rest ≡ 0 → lines_of refusal item (suc left) place rest read ≡ lines_of refusal item left (suc place) (after line_end rest) (read ++ (item (before line_end rest) ∷ []))
     unfolding lines_of
-    line_read e = rw (by, eq-eqb number 0 e)
+    line_read e = rw e
 
-  pub no_lines : (left place : ℕ) (rest : List ℕ) (read : List A) → left ≡ 0 → lines_of refusal item left place rest read ≡ items read rest
+  no_lines : (left place : ℕ) (rest : List ℕ) (read : List A) → left ≡ 0 → lines_of refusal item left place rest read ≡ items read rest
   unfolding lines_of
   no_lines left place rest read e = rw e
 
-  module _ (text : List ℕ) (from first count : ℕ) where
-    abbrev pub All : Read A
-    All = lines_of refusal item count first (drop from text) []
+  -- j lines of `count` are read, and the next begins at `at`
+  pub record ReadSoFar (text : List ℕ) (from first count : ℕ) (l : List A) (j at : ℕ) : Type 0 where
+    pub within : j ≤ count
+    pub size : length l ≡ count
+    pub same : lines_of refusal item count first (drop from text) [] ≡ lines_of refusal item (count - j) (first + j) (drop at text) (take j l)
 
-    -- j lines are read, and the next begins at `at`
-    pub record ReadSoFar (room : ℕ) (l : List A) (j at : ℕ) : Type 0 where
-      pub within : j ≤ count
-      pub size : length l ≡ room
-      pub same : All ≡ lines_of refusal item (count - j) (first + j) (drop at text) (take j l)
+  pub begun : (text : List ℕ) (from first : ℕ) (l : List A) → ReadSoFar text from first (length l) l 0 from
+  begun text from first l = record { within = zero-le; size = refl; same = rw (sub-zero, add-zero) }
 
-    pub begun : (room : ℕ) (l : List A) → length l ≡ room → ReadSoFar room l 0 from
-    begun room l e = record { within = zero-le; size = e; same = rw (sub-zero, add-zero) }
-
-module _ {A : Type 0} {refusal : ℕ → List ℕ → ℕ} {item : List ℕ → A} {text : List ℕ} {from first count room : ℕ} {l : List A} {j at : ℕ}
-    (inv : ReadSoFar refusal item text from first count room l j at) (fit : count ≤ room) where
-  pub finished : count ≤ j → read_of text count 0 0 at l ≡ All refusal item text from first count
+module _ {A : Type 0} {refusal : ℕ → List ℕ → ℕ} {item : List ℕ → A} {text : List ℕ} {from first count : ℕ} {l : List A} {j at : ℕ} (inv : ReadSoFar refusal item text from first count l j at) where
+  pub finished : count ≤ j → items l (drop at text) ≡ lines_of refusal item count first (drop from text) []
   finished h =
-      let e : j ≡ count = omega (arith, inv.within) in
+      let e : j ≡ length l = omega (arith, inv.within, inv.size) in
       let z : count - j ≡ 0 = omega arith in
-      let k : take count l ≡ take j l = ap (λ (n : ℕ). take n l) (sym e) in
-      read_done text count 0 0 at l refl ∙ ap (λ (r : List A). items r (drop at text)) k ∙ sym (inv.same ∙ no_lines refusal item (count - j) (first + j) (drop at text) (take j l) z)
+      sym (inv.same ∙ no_lines refusal item (count - j) (first + j) (drop at text) (take j l) z ∙ ap (λ (m : List A). items m (drop at text)) (ap (λ (n : ℕ). take n l) e ∙ take_all (length l) l (omega arith)))
 
-  module _ (more : j < count) {e : ℕ} (cut : e ≡ at + index_of line_end (drop at text)) where
+  module _ (more : j < count) where
     got : length (take j l) ≡ j
     got = let h : j ≤ length l = omega (arith, inv.size) in length-take-le j l h
 
     left : count - j ≡ suc (count - (j + 1))
     left = omega arith
 
-    stop : (number : ℕ) → (number ≡ 0 → ⊥) → line_refusal (refusal (length (take j l))) (drop at text) ≡ number → read_of text count number (first + j) at l ≡ All refusal item text from first count
-    stop number n by =
-        read-refused text count number (first + j) at l n
-        ∙ sym (inv.same ∙ ap (λ (k : ℕ). lines_of refusal item k (first + j) (drop at text) (take j l)) left ∙ line-refused refusal item (count - (j + 1)) (first + j) number (drop at text) (take j l) by n)
+    stop : (number : ℕ) → line_refusal (refusal j) (drop at text) ≡ number → (number ≡ 0 → ⊥) → line_refused number (first + j) ≡ lines_of refusal item count first (drop from text) []
+    stop number by n =
+        sym (
+        inv.same
+        ∙ ap (λ (k : ℕ). lines_of refusal item k (first + j) (drop at text) (take j l)) left
+        ∙ line-refused refusal item (count - (j + 1)) (first + j) (drop at text) (take j l) number (ap (λ (k : ℕ). line_refusal (refusal k) (drop at text)) got ∙ by) n
+        )
 
-    pub missing : length text ≤ e → read_of text count 2 (first + j) at l ≡ All refusal item text from first count
-    unfolding unless
-    missing h = stop 2 (λ x. absurd (omega arith)) (rw (cut-none line_end text at e cut h))
+    pub missing : (r : Refusal) → NoLine text at (first + j) r → line_refused (refusal_number r) (refusal_place r) ≡ lines_of refusal item count first (drop from text) []
+    missing r h = ap (line_refused (refusal_number r)) h.2 ∙ stop (refusal_number r) (missing-number (refusal j) text at (first + j) r h) (λ z. omega (arith, h.1))
 
-    module _ (inside : e < length text) {number : ℕ} (by : number ≡ refusal j (take (e - at) (drop at text))) where
-      told : line_refusal (refusal (length (take j l))) (drop at text) ≡ number
-      unfolding unless
-      told =
-          rw (cut_has line_end text at e cut inside)
-          (ap₂ refusal got (sym (cut-before line_end text at e cut)) ∙ sym by)
+    module _ {line : List ℕ} (next : ℕ) (here : LineAt text at line next) where
+      pub declined : (r : Refusal) → refusal_number r ≡ refusal j line → refusal_place r ≡ first + j → line_refused (refusal_number r) (refusal_place r) ≡ lines_of refusal item count first (drop from text) []
+      declined r e p = ap (line_refused (refusal_number r)) p ∙ stop (refusal_number r) (line-number (refusal j) text at line next here ∙ sym e) (refusal-numbered r)
 
-      pub declined : (number ≡ 0 → ⊥) → read_of text count number (first + j) at l ≡ All refusal item text from first count
-      declined n = stop number n told
-
-      pub turned : {x : A} → number ≡ 0 → x ≡ item (take (e - at) (drop at text)) → ReadSoFar refusal item text from first count room (set l j x) (j + 1) (e + 1)
+      pub turned : {x : A} → refusal j line ≡ 0 → x ≡ item line → ReadSoFar refusal item text from first count (set l j x) (j + 1) next
       turned {x} z is =
           let h : j < length l = omega (arith, inv.size) in
           let rest = drop at text in
           let taken : take j l ++ (item (before line_end rest) ∷ []) ≡ take (j + 1) (set l j x)
-          = ap (λ (y : A). take j l ++ (y ∷ [])) (ap item (sym (cut-before line_end text at e cut)) ∙ sym is) ∙ sym (take-suc-set l j x h) ∙ ap (λ (k : ℕ). take k (set l j x)) (sym (add-one j)) in
+          = ap (λ (y : A). take j l ++ (y ∷ [])) (ap item (sym here.1) ∙ sym is) ∙ sym (take-suc-set l j x h) ∙ ap (λ (k : ℕ). take k (set l j x)) (sym (add-one j)) in
           let p : suc (first + j) ≡ first + (j + 1) = omega arith in
+          let passes : line_refusal (refusal (length (take j l))) rest ≡ 0 = ap (λ (k : ℕ). line_refusal (refusal k) rest) got ∙ line-number (refusal j) text at line next here ∙ z in
           record {
             within = omega arith;
             size = length-set l j x ∙ inv.size;
             same =
                 inv.same
                 ∙ ap (λ (k : ℕ). lines_of refusal item k (first + j) rest (take j l)) left
-                ∙ line_read refusal item (count - (j + 1)) (first + j) number rest (take j l) told z
-                ∙ ap₂ (λ (k : ℕ) (t : List ℕ). lines_of refusal item (count - (j + 1)) k t (take j l ++ (item (before line_end rest) ∷ []))) p (sym (cut-after line_end text at e cut))
-                ∙ ap (lines_of refusal item (count - (j + 1)) (first + (j + 1)) (drop (e + 1) text)) taken;
+                ∙ line_read refusal item (count - (j + 1)) (first + j) rest (take j l) passes
+                ∙ ap₂ (λ (k : ℕ) (t : List ℕ). lines_of refusal item (count - (j + 1)) k t (take j l ++ (item (before line_end rest) ∷ []))) p (sym here.2)
+                ∙ ap (lines_of refusal item (count - (j + 1)) (first + (j + 1)) (drop next text)) taken;
           }
+
+-- a call on the first `count` of an array
+pub lines-told : {A : Type 0} (refusal : ℕ → List ℕ → ℕ) (item : List ℕ → A) (count first : ℕ) (rest : List ℕ) (l : List A) {r : Read A} → count ≤ length l
+    → r ≡ lines_of refusal item (length (take count l)) first rest [] → r ≡ lines_of refusal item count first rest []
+lines-told refusal item count first rest l fit e = e ∙ ap (λ (k : ℕ). lines_of refusal item k first rest []) (length-take-le count l fit)
+
+pub lines-stored : {A : Type 0} (count : ℕ) (l rest : List A) → length l ≡ count → take count (l ++ rest) ≡ l
+lines-stored count l rest e = ap (λ (k : ℕ). take k (l ++ rest)) (sym e) ∙ take-append_seam l rest

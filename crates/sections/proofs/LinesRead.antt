@@ -1,5 +1,5 @@
 -- What lines one after the other show, by how they are answered:
---   Says, Said, lines-said    lines that are read are each accepted by their own tests
+--   LineSays, Said, lines-said    lines that are read are each accepted by their own tests
 --   lines-further             the text after m lines and k more
 --   Passed, lines-passed      each of them passes its own test, and what follows is the text after them
 --   Stopped, lines-stopped    lines that are refused: the first that is, with its number, and its place counted from that of the first line
@@ -30,13 +30,13 @@ is_read (line_refused number place) = false
 
 module _ {A : Type 0} (refusal : ℕ → List ℕ → ℕ) (item : List ℕ → A) (d : A) where
   -- what some line said that was accepted as the j-th, from 0
-  pub record Says (j : ℕ) (x : A) : Type 0 where
+  pub record LineSays (j : ℕ) (x : A) : Type 0 where
     pub line : List ℕ
     pub passes : refusal j line ≡ 0
     pub is : x ≡ item line
 
   abbrev pub Said : List A → Type 0
-  Said l = (j : ℕ) → j < length l → Says j (get_or l j d)
+  Said l = (j : ℕ) → j < length l → LineSays j (get_or l j d)
 
   none_said : Said []
   none_said j h = absurd (omega arith)
@@ -44,11 +44,11 @@ module _ {A : Type 0} (refusal : ℕ → List ℕ → ℕ) (item : List ℕ → 
   more-said : (read : List A) (line : List ℕ) → refusal (length read) line ≡ 0 → Said read → Said (read ++ (item line ∷ []))
   more-said read line e s j h = go (dec_le (length read) j)
     where
-      go : Dec (length read ≤ j) → Says j (get_or (read ++ (item line ∷ [])) j d)
+      go : Dec (length read ≤ j) → LineSays j (get_or (read ++ (item line ∷ [])) j d)
       go (yes last) =
           let k : j ≡ length read = omega (arith, length-append read (item line ∷ [])) in
           record { line = line; passes = ap (λ (i : ℕ). refusal i line) k ∙ e; is = ap (λ (i : ℕ). get_or (read ++ (item line ∷ [])) i d) k ∙ get_or-append_seam read (item line) [] d }
-      go (no early) = subst⁻¹ (Says j) (get_or-append read (item line ∷ []) d j (lt_of_not-le early)) (s j (lt_of_not-le early))
+      go (no early) = subst⁻¹ (LineSays j) (get_or-append read (item line ∷ []) d j (lt_of_not-le early)) (s j (lt_of_not-le early))
 
   pub lines-said : (left place : ℕ) (rest : List ℕ) (read l : List A) (end : List ℕ) → Said read → lines_of refusal item left place rest read ≡ items l end
       → Said l × (length l ≡ length read + left)

@@ -1,12 +1,12 @@
 -- The fault lines of a text: how they are refused and written, and what a right fault is (document 01, "The circuit text"; document 02, note 8):
 --   "Q lines `fault,LINE,VALUE`, with one to three LINE,VALUE pairs: LINE 1 to 56 and rising, VALUE 0 or 1."
 --   "A fault line may read `bridge,I,J` with inputs I below J" "Plans of circuits and tables may mix bridges and stuck lines, one bridge to a line."
-use Rattle.std.specs.Prelude.{ℕ, ◌<◌, ◌≤◌, cond, List, [], ◌∷◌, ◌++◌, eqb, ℤ, pos, ◌⊎◌, ◌≡◌}
+use Rattle.std.specs.Prelude.{ℕ, zero, suc, ◌<◌, ◌≤◌, cond, List, [], ◌∷◌, ◌++◌, eqb, get_or, ℤ, pos, ◌⊎◌, ◌≡◌}
 use Rattle.writing.specs.Writing.{line_of}
 use Rattle.statements.specs.Lines.{fault_word, bridge_word, fault_refusal, fault_line_refusal}
 use Rattle.statements.specs.declared.Fault.{Fault}
 use Rattle.statements.specs.declared.Pair.{Pair}
-use Rattle.statements.specs.Items.{free, no_bridge}
+use Rattle.statements.specs.Items.{free, no_bridge, sound}
 
 -- the j-th of them, from 0, in a text of so many inputs; the last line that may be stuck is `top`
 abbrev pub nth_fault_refusal : ℕ → ℕ → ℕ → List ℕ → ℕ
@@ -54,3 +54,8 @@ bridge_line f = line_of bridge_word (pos f.bridge.first ∷ pos f.bridge.second 
 -- a fault without a bridge names input 0 there
 unfoldable pub fault_line : Fault → List ℕ
 fault_line f = cond (eqb f.bridge.first 0) (stuck_line f) (bridge_line f)
+
+-- "0 for the sound circuit, else 1 to Q"
+abbrev pub fault_numbered : List Fault → ℕ → Fault
+fault_numbered faults zero = sound
+fault_numbered faults (suc k) = get_or faults k sound

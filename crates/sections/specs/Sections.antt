@@ -1,6 +1,8 @@
 -- Lines of one kind, one after the other: what they say with the text that follows them, or the first refusal with its place (document 01, "What is
 -- returned"): "Text: 1 first, then line by line" "Place is a line of the text (from 1)".
-use Rattle.std.specs.Prelude.{ℕ, zero, suc, cond, List, [], ◌∷◌, ◌++◌, eqb, length, take, drop, get_or}
+use Rattle.std.specs.Prelude.{◌≡◌, ℕ, zero, suc, true, false, cond, List, [], ◌∷◌, ◌++◌, eqb, length, drop, get_or, Result}
+use Rattle.refusals.specs.Refusals.{refusal_number, refusal_place, told}
+use Rattle.refusals.specs.declared.Refusal.{Refusal}
 use Rattle.text.specs.Text.{before, after, has_byte, line_end}
 use Rattle.fields.specs.Fields.{unless}
 use Rattle.writing.specs.Writing.{gather}
@@ -8,6 +10,15 @@ use Rattle.writing.specs.Writing.{gather}
 -- the next line is refused by 2 where it has no end, else by its own tests
 abbrev pub line_refusal : (List ℕ → ℕ) → List ℕ → ℕ
 line_refusal refusal rest = unless (has_byte line_end rest) 2 (refusal (before line_end rest))
+
+-- a line that begins at `at`, and where the next one begins
+abbrev pub LineAt : List ℕ → ℕ → List ℕ → ℕ → Type 0
+LineAt text at line next =
+    (has_byte line_end (drop at text) ≡ true) × (line ≡ before line_end (drop at text)) × (drop next text ≡ after line_end (drop at text))
+
+-- there is none
+abbrev pub NoLine : List ℕ → ℕ → ℕ → Refusal → Type 0
+NoLine text at place r = (has_byte line_end (drop at text) ≡ false) × (refusal_number r ≡ 2) × (refusal_place r ≡ place)
 
 -- what lines say, with the text that follows them; or a refusal's number and place
 pub data Read (A : Type 0) : Type 0 where
@@ -23,9 +34,9 @@ lines_of refusal item (suc left) place rest read =
     (lines_of refusal item left (suc place) (after line_end rest) (read ++ (item (before line_end rest) ∷ [])))
     (line_refused (line_refusal (refusal (length read)) rest) place)
 
--- what a stage answers: number 0 where all lines were read, and then the items and the rest of the text
-unfoldable pub read_of : {A : Type 0} → List ℕ → ℕ → ℕ → ℕ → ℕ → List A → Read A
-read_of text count number place at l = cond (eqb number 0) (items (take count l) (drop at text)) (line_refused number place)
+-- what a call answers that reads them: where the next line begins, with the items that it has stored, or a refusal
+abbrev pub lines_answer : {A : Type 0} → List ℕ → List A → Result ℕ Refusal → Read A
+lines_answer text l result = told (λ at. items l (drop at text)) line_refused result
 
 -- the text after its first k lines
 unfoldable pub lines_from : ℕ → List ℕ → List ℕ

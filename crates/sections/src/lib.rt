@@ -1,79 +1,93 @@
-// The fault lines of a text, one after the other. The definitions and laws beside them are over lines of any kind.
+// Lines of one kind, one after the other, and the kind of fault lines. The definitions and laws beside them are over lines of any kind too.
 #![tactic(auto)]
 
-ghost use Rattle.std.specs.Prelude.{◌≡◌, [], ◌≤◌, drop};
+ghost use Rattle.std.specs.Prelude.{◌≡◌, ◌+◌, ◌≤◌, ℕ, List, [], drop, length, MatchResult};
+ghost use Rattle.refusals.specs.Refusals.{Says};
+ghost use Rattle.text.specs.Text.{text_bytes};
 ghost use Rattle.statements.specs.Lines.{fault_line_of};
-ghost use Rattle.sections.specs.Sections.{lines_of, read_of};
-ghost use Rattle.sections.specs.FaultLines.{nth_fault_refusal};
+ghost use Rattle.sections.specs.FaultLines.{nth_fault_refusal, fault_numbered};
+ghost use Rattle.sections.specs.Sections.{lines_of, lines_answer, LineAt, NoLine};
 
-use statements::{Bridge, Fault, Pair};
+use refusals::{Flaw, Refusal};
+use statements::Fault;
 
-// What the fault lines say; number 0 where none is refused, and then `at` is where the next line begins.
-#[derive(Clone, Copy)]
-pub struct FaultLines {
-    pub number: u32,
-    pub place: usize,
-    pub at: usize,
-    pub faults: [Fault; 32],
+/// A kind of line, and what its lines say.
+pub trait LineKind {
+    type Item: Copy;
+
+    /// By which number a line is refused, from how many of its kind stand before it.
+    ghost refusal: { Self → ℕ → List ℕ → ℕ };
+
+    ghost item: { Self → List ℕ → Self.Item };
+
+    fn read(&self, before: usize, line: &[u8]) -> Result<Self::Item, Flaw>
+        requires { before ≤ text_bytes }
+        ensures { Says result (refusal self.now before line.now) (item self.now line.now) };
 }
 
-// The `count` fault lines from `from` on, the first of which is line `place`; `top` is the last line that may be stuck.
-pub fn faults(
+/// The line that begins at `at`, without its end, and where the next one begins; it is line `place` of the text.
+pub fn line_at(text: &[u8], at: usize, place: usize) -> Result<(&[u8], usize), Refusal>
+    ensures { MatchResult result (λ r. LineAt text.now at r.0.now r.1) (λ e. NoLine text.now at place e) }
+{
+    let end = text::find(text, at, b'\n');
+    if text.len() <= end {
+        return Err(Refusal::Line {
+            flaw: Flaw::Malformed,
+            line: place,
+        });
+    }
+    Ok((&text[at..end], end + 1))
+}
+
+/// As many lines as there are items, from `from` on, the first of which is line `place` of the text; and where the next one begins.
+pub fn read_lines<K: LineKind>(
+    kind: &K,
     text: &[u8],
     from: usize,
-    inputs: usize,
-    top: usize,
-    count: usize,
     place: usize,
-) -> FaultLines
-    requires { (count ≤ 32) × (place ≤ 54) }
-    ensures { read_of text.now count result.number result.place result.at result.faults ≡ lines_of (nth_fault_refusal inputs top) fault_line_of count place (drop from text.now) [] }
+    items: &mut [K::Item],
+) -> Result<usize, Refusal>
+    requires { length items.old + place ≤ text_bytes }
+    ensures { lines_answer text.now items.new result ≡ lines_of (K.refusal kind.now) (K.item kind.now) (length items.old) place (drop from text.now) [] }
 {
-    let free = Pair {
-        line: 0,
-        value: false,
-    };
-    let none = Fault {
-        first: free,
-        second: free,
-        third: free,
-        bridge: Bridge {
-            first: 0,
-            second: 0,
-        },
-    };
-    let mut faults = [none; 32];
     let mut at = from;
-    let mut j: usize = 0;
-    while j < count {
-        let end = text::find(text, at, b'\n');
-        if text.len() <= end {
-            return FaultLines {
-                number: 2,
-                place: place + j,
-                at,
-                faults,
-            };
-        }
-        let said = statements::fault_or_bridge(inputs, top, &text[at..end]);
-        let number = said.number;
-        if number != 0 {
-            return FaultLines {
-                number,
-                place: place + j,
-                at,
-                faults,
-            };
-        }
-        let fault = said.fault;
-        faults[j] = fault;
-        at = end + 1;
-        j += 1;
+    for (j, item) in items.iter_mut().enumerate() {
+        let (line, next) = line_at(text, at, place + j)?;
+        *item = kind.read(j, line).map_err(|flaw| Refusal::Line {
+            flaw,
+            line: place + j,
+        })?;
+        at = next;
     }
-    FaultLines {
-        number: 0,
-        place: 0,
-        at,
-        faults,
+    Ok(at)
+}
+
+/// The fault lines of a text of so many inputs whose last line that may be stuck is `top`.
+#[derive(Clone, Copy)]
+pub struct FaultLines {
+    pub inputs: usize,
+    pub top: usize,
+}
+
+impl LineKind for FaultLines {
+    type Item = Fault;
+
+    ghost refusal = { λ k. nth_fault_refusal k.inputs k.top };
+
+    ghost item = { λ k. fault_line_of };
+
+    fn read(&self, _before: usize, line: &[u8]) -> Result<Fault, Flaw> {
+        statements::fault_or_bridge(self.inputs, self.top, line)
+    }
+}
+
+/// Fault `number`, from 1; the fault that names no line for 0.
+pub fn fault_at(faults: &[Fault], number: usize) -> Fault
+    requires { number ≤ length faults.now }
+    ensures { result ≡ fault_numbered faults.now number }
+{
+    match number.checked_sub(1) {
+        None => Fault::SOUND,
+        Some(k) => faults[k],
     }
 }

@@ -16,16 +16,15 @@ fn written(text: &[u8], out: &mut [u8], work: &mut [u32]) -> usize
     requires { (report_bytes ≤ length out.old) × (working_numbers ≤ length work.old) }
     ensures { IsPrefixLen result out.new × (take result out.new ≡ report_of text.now) }
 {
-    let r = report::report(text, out, work);
-    r.bytes
+    report::report(text, out, work).unwrap_or(0)
 }
 
 // Where what the system says of an error ends: std adds the error's number, which a reader of the message has no use for, and zeros follow.
 fn words_end(said: &[u8]) -> usize
     ensures { IsPrefixLen result said.now }
 {
-    for i in 0..said.len() {
-        if said[i] == 0 || said[i..].starts_with(b" (os error ") {
+    for (i, b) in said.iter().enumerate() {
+        if *b == 0 || said[i..].starts_with(b" (os error ") {
             return i;
         }
     }

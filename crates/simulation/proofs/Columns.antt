@@ -16,11 +16,10 @@ use borrow.Author.Tests.{ltb-true, ltb-false}
 use lib.Dec.{eqb, ltb}
 use lib.ListN.{length, take, get_or, replicate, get_or-eq_default}
 use lib.Pow.{pow_mono}
-use lib.Seq.{get_or-append_seam, get_or-take, length-take-le}
+use lib.Seq.{get_or-append_seam, length-take-le, take-length}
 use Rattle.integer.specs.Tab.{tab}
-use Rattle.netlist.specs.Circuits.{netlist_of, Sized}
+use Rattle.netlist.specs.Circuits.{Netlist}
 use Rattle.netlist.specs.WellFormed.{WellFormed}
-use Rattle.netlist.specs.declared.Circuit.{Circuit}
 use Rattle.gate_lines.specs.GateItems.{no_gate, lines_read, GateRight}
 use Rattle.statements.specs.declared.Bridge.{Bridge}
 use Rattle.statements.specs.declared.Fault.{Fault}
@@ -32,7 +31,7 @@ use Rattle.evaluation.specs.GateRules.{gate_rule}
 use Rattle.columns.specs.declared.Seen.{Seen}
 use Rattle.evaluation.proofs.Widths.{reads-below, map_below}
 use Rattle.columns.proofs.AppliedInputs.{applied-joined, applied-apart}
-use Rattle.simulation.specs.Rows.{input_values, reads, gate_in, gate_next, gates_next}
+use Rattle.simulation.specs.Rows.{input_values, reads, gate_in, gate_next, gates_next, line_values}
 use Rattle.simulation.specs.Steps.{Columns, input_lines, row_bit_of, source_of, slot_of}
 use Rattle.simulation.proofs.LineValues.{length-inputs, length-lines, input-more, gates-more}
 
@@ -173,26 +172,26 @@ module _ (f : Fault) (n line : ℕ) (lines : ℕ → List Bool) {values after : 
           ∙ ap (λ (k : ℕ). shown f k (gate_in (lines x) g)) (sym (long x h))
 
 -- the lines of row x with the inputs and the first j gates
-abbrev pub lines_to : Circuit → Fault → ℕ → ℕ → List Bool
-lines_to c f j x = gates_next f (input_values f x c.head.inputs) (take j c.gates)
+abbrev pub lines_to : Netlist → Fault → ℕ → ℕ → List Bool
+lines_to c f j x = gates_next f (input_values f x c.inputs) (take j c.gates)
 
-pub gates-next : (c : Circuit) (f : Fault) (n j : ℕ) {values after : List Bool} → n ≤ 256 → Sized c → length c.gates ≡ 48 → j < c.head.gates
-    → (s : Seen) → (s.one ≡ shown f (c.head.inputs + j + 1) true) × (s.zero ≡ shown f (c.head.inputs + j + 1) false)
-    → GateRight (c.head.inputs + j + 1) (get_or c.gates j no_gate) → Columns values n (lines_to c f j)
-    → Columned values after (c.head.inputs + j + 1) n (gate_rule values s (get_or c.gates j no_gate).kind (lines_read (get_or c.gates j no_gate))) → Columns after n (lines_to c f (j + 1))
-gates-next c f n j small size room h s e right are made =
+pub gates-next : (c : Netlist) (f : Fault) (n j : ℕ) {values after : List Bool} → n ≤ 256 → WellFormed c → j < length c.gates
+    → (s : Seen) → (s.one ≡ shown f (c.inputs + j + 1) true) × (s.zero ≡ shown f (c.inputs + j + 1) false) → Columns values n (lines_to c f j)
+    → Columned values after (c.inputs + j + 1) n (gate_rule values s (get_or c.gates j no_gate).kind (lines_read (get_or c.gates j no_gate))) → Columns after n (lines_to c f (j + 1))
+gates-next c f n j small w h s e are made =
     columns-as n (λ x. gate_next f (lines_to c f j x) (get_or c.gates j no_gate)) (lines_to c f (j + 1))
-    (λ x l. gates-more f (input_values f x c.head.inputs) c.gates j (omega (arith, size.gates)))
-    (gate-next f n (c.head.inputs + j + 1) (lines_to c f j) small (omega (arith, size.inputs, size.gates)) long (get_or c.gates j no_gate) s e right are made)
+    (λ x l. gates-more f (input_values f x c.inputs) c.gates j h)
+    (gate-next f n (c.inputs + j + 1) (lines_to c f j) small (omega (arith, w.inputs-high, w.gates-high)) long (get_or c.gates j no_gate) s e (w.gates-right j h) are made)
   where
-    long : (x : ℕ) → x < n → length (lines_to c f j x) ≡ c.head.inputs + j + 1
-    long x l =
-        length-lines f (input_values f x c.head.inputs) (take j c.gates)
-        ∙ omega (arith, length-inputs f x c.head.inputs, length-take-le j c.gates (omega (arith, size.gates)))
+    long : (x : ℕ) → x < n → length (lines_to c f j x) ≡ c.inputs + j + 1
+    long x l = length-lines f (input_values f x c.inputs) (take j c.gates) ∙ omega (arith, length-inputs f x c.inputs, length-take-le j c.gates (omega (arith, h)))
 
--- of a well-formed circuit, as its array has them
-pub gate-is-right : (c : Circuit) (j : ℕ) → WellFormed (netlist_of c) → length c.gates ≡ 48 → Sized c → j < c.head.gates → GateRight (c.head.inputs + j + 1) (get_or c.gates j no_gate)
-unfolding netlist_of
-gate-is-right c j w room size h =
-    subst (GateRight (c.head.inputs + j + 1)) (get_or-take c.head.gates c.gates j no_gate h)
-    (w.gates-right j (omega (arith, length-take-le c.head.gates c.gates (omega (arith, size.gates)))))
+-- after the last gate
+pub lines-all : (c : Netlist) (f : Fault) (n j : ℕ) {values : List Bool} → j ≡ length c.gates → Columns values n (lines_to c f j) → Columns values n (line_values c f)
+unfolding line_values
+lines-all c f n j {values} e are = subst (λ (gates : List Gate). Columns values n (λ x. gates_next f (input_values f x c.inputs) gates)) (ap (λ k. take k c.gates) e ∙ take-length c.gates) are
+
+-- before the first gate
+pub lines_none : (c : Netlist) (f : Fault) (n : ℕ) {values : List Bool} → Columns values n (input_lines f c.inputs) → Columns values n (lines_to c f 0)
+unfolding gates_next
+lines_none c f n are = are

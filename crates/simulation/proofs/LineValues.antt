@@ -12,9 +12,9 @@ use lib.ListN.{length, take, get_or, length-append, length-take}
 use lib.Seq.{take-suc}
 use Rattle.integer.specs.Tab.{tab}
 use Rattle.integer.proofs.Tabs.{length-tab}
-use Rattle.netlist.specs.Circuits.{netlist_of, Sized}
+use Rattle.netlist.specs.Circuits.{Netlist}
+use Rattle.netlist.specs.WellFormed.{WellFormed}
 use Rattle.columns.specs.Shown.{shown}
-use Rattle.netlist.specs.declared.Circuit.{Circuit}
 use Rattle.gate_lines.specs.GateItems.{no_gate}
 use Rattle.statements.specs.declared.Fault.{Fault}
 use Rattle.gate_lines.specs.declared.Gate.{Gate}
@@ -50,11 +50,6 @@ module _ (f : Fault) where
   gates-more l gates j h = sym (gates-snoc l (take j gates) (get_or gates j no_gate)) ∙ ap (gates_next f l) (rw (add-one j, take-suc gates j no_gate h))
 
 -- a circuit of the code has at most 56 lines, and there is index 0
-pub lines-few : (c : Circuit) (f : Fault) (x : ℕ) → Sized c → length (line_values (netlist_of c) f x) ≤ 57
-unfolding line_values netlist_of
-lines-few c f x s =
-    let n = length-lines f (input_values f x c.head.inputs) (take c.head.gates c.gates) in
-    let i = length-inputs f x c.head.inputs in
-    let g = length-take c.head.gates c.gates in
-    let m = min-le_left c.head.gates (length c.gates) in
-    omega (arith, s.inputs, s.gates)
+pub lines-few : (c : Netlist) (f : Fault) (x : ℕ) → WellFormed c → length (line_values c f x) ≤ 57
+unfolding line_values
+lines-few c f x w = omega (arith, length-lines f (input_values f x c.inputs) c.gates, length-inputs f x c.inputs, w.inputs-high, w.gates-high)

@@ -16,14 +16,15 @@ use lib.Seq.{get_or-take, length-take-le}
 use lib.Signed.{nat_abs-le}
 use mir.Syntax.{w16, w32}
 use mir.Val.{SFits, to_z, of_z}
+use mir.ValLaws.{to_z-of_z}
 use Rattle.integer.specs.Sum.{sum_to}
 use Rattle.integer.specs.Tab.{tab}
 use Rattle.integer.proofs.Bounds.{nat_abs-add, sfits-abs}
 use Rattle.integer.proofs.Machine.{widens, recast}
 use Rattle.integer.proofs.Sums.{sum-ext}
 use Rattle.integer.proofs.Tabs.{tab-ext}
-use Rattle.netlist.specs.Circuits.{netlist_of, Sized}
-use Rattle.netlist.specs.declared.Circuit.{Circuit}
+use Rattle.netlist.specs.Circuits.{Netlist}
+use Rattle.netlist.specs.WellFormed.{WellFormed}
 use Rattle.statements.specs.Items.{no_output}
 use Rattle.statements.specs.declared.Fault.{Fault}
 use Rattle.simulation.specs.Rows.{output_term, line_values, row_value, rows_of}
@@ -56,27 +57,21 @@ module _ (t : ℕ → ℤ) (k : ℕ) (z : ℤ) where
     pub sum-small : z ≡ t k → nat_abs (sum_to (k + 1) t) ≤ (k + 1) * 32768
     sum-small e = subst (λ (y : ℤ). nat_abs y ≤ (k + 1) * 32768) (sum_more e) (omega (arith, nat_abs-add (sum_to k t) z))
 
--- the outputs in use stand at the front of their array
-pub row_of : (c : Circuit) (f : Fault) (n x : ℕ) {values : List Bool} → Sized c → c.head.outputs ≤ length c.outputs → x < n
-    → Columns values n (line_values (netlist_of c) f) → read_sum values c.outputs c.head.outputs x ≡ row_value (netlist_of c) f x
-unfolding read_sum row_value netlist_of
-row_of c f n x {values} s room h are =
-    sum-ext c.head.outputs (read_term values c.outputs x) term same ∙ ap (λ (m : ℕ). sum_to m term) (sym (length-take-le c.head.outputs c.outputs room))
-  where
-    term : ℕ → ℤ
-    term = output_term (line_values (netlist_of c) f x) (take c.head.outputs c.outputs)
-
-    same : (k : ℕ) → k < c.head.outputs → read_term values c.outputs x k ≡ term k
-    same k l =
-        rw (slot-shows n (line_values (netlist_of c) f) are (get_or c.outputs k no_output).line x h (lines-few c f x s), get_or-take c.head.outputs c.outputs k no_output l)
+pub row_of : (c : Netlist) (f : Fault) (n x : ℕ) {values : List Bool} → WellFormed c → x < n → Columns values n (line_values c f) → read_sum values c.outputs x ≡ row_value c f x
+unfolding read_sum row_value
+row_of c f n x {values} w h are =
+    sum-ext (length c.outputs) (read_term values c.outputs x) (output_term (line_values c f x) c.outputs)
+    (λ k l. rw (slot-shows n (line_values c f) are (get_or c.outputs k no_output).line x h (lines-few c f x w)))
 
 -- what a loop that writes row x at x has written at its end
-pub rows-read : (c : Circuit) (f : Fault) (n : ℕ) {values : List Bool} → Sized c → c.head.outputs ≤ length c.outputs → n ≡ 2 ^ c.head.inputs
-    → Columns values n (line_values (netlist_of c) f) → tab n (read_sum values c.outputs c.head.outputs) ≡ rows_of (netlist_of c) f
-unfolding rows_of netlist_of
-rows-read c f n {values} s room e are =
-    tab-ext n (read_sum values c.outputs c.head.outputs) (row_value (netlist_of c) f) (λ x h. row_of c f n x s room h are)
-    ∙ ap (λ (k : ℕ). tab k (row_value (netlist_of c) f)) e
+pub rows-read : (c : Netlist) (f : Fault) (n : ℕ) {values : List Bool} → WellFormed c → n ≡ 2 ^ c.inputs → Columns values n (line_values c f) → tab n (read_sum values c.outputs) ≡ rows_of c f
+unfolding rows_of
+rows-read c f n {values} w e are =
+    tab-ext n (read_sum values c.outputs) (row_value c f) (λ x h. row_of c f n x w h are) ∙ ap (λ (k : ℕ). tab k (row_value c f)) e
 
-pub row-count-few : (c : Circuit) → Sized c → 2 ^ c.head.inputs ≤ 256
-row-count-few c s = pow_mono s.inputs
+pub row-count-few : (c : Netlist) → WellFormed c → 2 ^ c.inputs ≤ 256
+row-count-few c w = pow_mono w.inputs-high
+
+-- one turn of the machine's sum, of the value z of 32 bits
+pub sum_turn : (b : ℕ) (z s : ℤ) → to_z w32 b ≡ s → SFits w32 z → nat_abs s + nat_abs z < 2 ^ 31 → to_z w32 (of_z w32 (to_z w32 b +ℤ to_z w32 (of_z w32 z))) ≡ s +ℤ z
+sum_turn b z s e f h = rw (to_z-of_z w32 z f, e) (to_z-of_z w32 (s +ℤ z) (sfits-abs (omega (arith, nat_abs-add s z))))

@@ -3,7 +3,7 @@
 --   row_bit_of, source_of   which bit of a row an input is; which bits an input gets under a bridge
 --   slot_of               where a line is read in them: no circuit has a line 57
 --   read_term, read_sum    an output's term and a row's value, as they are read there
-use Rattle.std.specs.Prelude.{ℕ, ◌-◌, ◌<◌, Bool, cond, List, ◌≡◌, ltb, ℤ, get_or}
+use Rattle.std.specs.Prelude.{ℕ, ◌-◌, ◌<◌, Bool, cond, List, ◌≡◌, ltb, ℤ, get_or, length}
 use Rattle.integer.specs.Sum.{sum_to}
 use Rattle.statements.specs.Items.{no_output}
 use Rattle.statements.specs.declared.Bridge.{Bridge}
@@ -34,5 +34,5 @@ slot_of line = cond (ltb line 57) line 57
 abbrev pub read_term : List Bool → List Output → ℕ → ℕ → ℤ
 read_term values outputs x k = weighed (shown_at values (slot_of (get_or outputs k no_output).line) x) (get_or outputs k no_output).weight
 
-unfoldable pub read_sum : List Bool → List Output → ℕ → ℕ → ℤ
-read_sum values outputs count x = sum_to count (read_term values outputs x)
+unfoldable pub read_sum : List Bool → List Output → ℕ → ℤ
+read_sum values outputs x = sum_to (length outputs) (read_term values outputs x)

@@ -4,15 +4,15 @@
 
 ghost use Rattle.std.specs.Prelude.{◌≡◌, ◌+◌, ◌≤◌, ◌<◌, ◌^◌, nat_abs, length};
 ghost use Rattle.integer.specs.Tab.{tab};
-ghost use Rattle.netlist.specs.Circuits.{netlist_of, Sized};
-ghost use Rattle.netlist.specs.WellFormed.{WellFormed};
 ghost use Rattle.simulation.specs.Rows.{line_values, weighed, rows_of};
 ghost use Rattle.simulation.specs.Steps.{Columns, input_lines, row_bit_of, source_of, slot_of, read_sum};
 
+use columns::Seen;
 use netlist::Circuit;
 use statements::{Bridge, Fault, Output};
 
 // Which bit of a row an input is; past the last input a bit that no row has.
+#[tactic(auto, unfolding(crate::specs::Steps::row_bit_of))]
 fn row_bit(input: u16) -> usize
     ensures { (result ≡ row_bit_of input) × (result ≤ 8) }
 {
@@ -23,6 +23,7 @@ fn row_bit(input: u16) -> usize
 }
 
 // The bit that input i, from 0, gets for one of the bridge's inputs: that input's where the bridge joins i, else its own.
+#[tactic(auto, unfolding(crate::specs::Steps::source_of))]
 fn source(b: Bridge, i: usize, input: u16) -> usize
     requires { i < 8 }
     ensures { (result ≡ source_of b i input) × (result ≤ 8) }
@@ -37,38 +38,33 @@ fn input_columns(values: &mut [bool], f: Fault, inputs: usize, n: usize)
     requires { (length values.old ≡ 14848) × (inputs ≤ 8) × (n ≤ 256) × Columns values.old n (input_lines f 0) }
     ensures { Columns values.new n (input_lines f inputs) }
 {
-    let mut i: usize = 0;
-    while i < inputs {
+    for i in 0..inputs {
         let p = source(f.bridge, i, f.bridge.first);
         let q = source(f.bridge, i, f.bridge.second);
-        columns::input_column(values, i, p, q, columns::through(f, i + 1), n);
-        i += 1;
+        columns::input_column(values, i, p, q, Seen::through(f, i + 1), n);
     }
 }
 
 // The columns of the gates, after those of the inputs.
-fn gate_columns(values: &mut [bool], c: Circuit, f: Fault, n: usize)
-    requires { Sized c × WellFormed (netlist_of c) × (length values.old ≡ 14848) × (n ≤ 256) × Columns values.old n (input_lines f c.head.inputs) }
-    ensures { Columns values.new n (line_values (netlist_of c) f) }
+fn gate_columns(values: &mut [bool], c: &Circuit, f: Fault, n: usize)
+    requires { (length values.old ≡ 14848) × (n ≤ 256) × Columns values.old n (input_lines f c.now.inputs) }
+    ensures { Columns values.new n (line_values c.now f) }
 {
-    let inputs = c.head.inputs;
-    let count = c.head.gates;
-    let mut j: usize = 0;
-    while j < count {
-        let gate = c.gates[j];
+    let inputs = c.inputs();
+    for (j, gate) in c.gates().iter().enumerate() {
         let line = inputs + j + 1;
-        evaluation::gate_column(values, gate, line, columns::through(f, line), n);
-        j += 1;
+        evaluation::gate_column(values, *gate, line, Seen::through(f, line), n);
     }
 }
 
 fn weigh(shows: bool, weight: i16) -> i32
     ensures { (result ≡ weighed shows weight) × (nat_abs result ≤ 32768) }
 {
-    if shows { weight as i32 } else { 0 }
+    if shows { i32::from(weight) } else { 0 }
 }
 
 // Where a line's column is read: past the last line there is one column more, which is always false.
+#[tactic(auto, unfolding(crate::specs::Steps::slot_of))]
 fn slot(line: u16) -> usize
     ensures { (result ≡ slot_of line) × (result ≤ 57) }
 {
@@ -76,42 +72,36 @@ fn slot(line: u16) -> usize
 }
 
 // The row's value: the sum of the weights of the outputs that show 1.
-fn row_value(values: &[bool], outputs: [Output; 4], count: usize, x: usize) -> i32
-    requires { (length values.now ≡ 14848) × (count ≤ 4) × (x < 256) }
-    ensures { result ≡ read_sum values.now outputs count x }
+fn row_value(values: &[bool], outputs: &[Output], x: usize) -> i32
+    requires { (length values.now ≡ 14848) × (length outputs.now ≤ 4) × (x < 256) }
+    ensures { result ≡ read_sum values.now outputs.now x }
 {
     let mut sum: i32 = 0;
-    let mut k: usize = 0;
-    while k < count {
-        let output = outputs[k];
+    for output in outputs {
         let at = slot(output.line) * 256;
         sum += weigh(values[at + x], output.weight);
-        k += 1;
     }
     sum
 }
 
 // Every row's value.
-fn row_values(values: &[bool], outputs: [Output; 4], count: usize, out: &mut [i32])
-    requires { (length values.now ≡ 14848) × (count ≤ 4) × (length out.old ≤ 256) }
-    ensures { out.new ≡ tab (length out.old) (read_sum values.now outputs count) }
+fn row_values(values: &[bool], outputs: &[Output], out: &mut [i32])
+    requires { (length values.now ≡ 14848) × (length outputs.now ≤ 4) × (length out.old ≤ 256) }
+    ensures { out.new ≡ tab (length out.old) (read_sum values.now outputs.now) }
 {
-    let mut x: usize = 0;
-    while x < out.len() {
-        out[x] = row_value(values, outputs, count, x);
-        x += 1;
+    for (x, row) in out.iter_mut().enumerate() {
+        *row = row_value(values, outputs, x);
     }
 }
 
 // The rows of the circuit under a fault: a column for each line, one value a row, and each row's value from them.
-pub fn rows(c: Circuit, f: Fault, out: &mut [i32])
-    requires { Sized c × WellFormed (netlist_of c) × (length out.old ≡ 2 ^ c.head.inputs) }
-    ensures { out.new ≡ rows_of (netlist_of c) f }
+pub fn rows(c: &Circuit, f: Fault, out: &mut [i32])
+    requires { length out.old ≡ 2 ^ c.now.inputs }
+    ensures { out.new ≡ rows_of c.now f }
 {
     let n = out.len();
     let mut values = [false; 14848];
-    input_columns(&mut values, f, c.head.inputs, n);
+    input_columns(&mut values, f, c.inputs(), n);
     gate_columns(&mut values, c, f, n);
-    let outputs = c.outputs;
-    row_values(&values, outputs, c.head.outputs, out);
+    row_values(&values, c.outputs(), out);
 }

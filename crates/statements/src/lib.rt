@@ -1,15 +1,17 @@
-// What one line of the circuit text says, with the number by which it is refused, or 0: the head, an output, a fault. A table's fault lines are read here too, and a
+// What one line of the circuit text says, or the flaw by which it is refused: the head, an output, a fault. A table's fault lines are read here too, and a
 // gate's line in a crate of its own.
 //
-// A line's numbers are read once, all its tests are made on them, and the first that fails gives the number. What a line says counts only where
-// all pass.
+// The tests of a line are made in document 01's order, and the first that fails gives the flaw.
 #![tactic(auto)]
 
-ghost use Rattle.std.specs.Prelude.{◌≡◌, suc, ◌≤◌};
-ghost use Rattle.fields.specs.Fields.{value_at};
-ghost use Rattle.statements.specs.Lines.{head_refusal, head_of, output_refusal, output_of, is_fault, pair_in_range, fault_refusal, fault_of, bridge_refusal, bridge_of, fault_line_refusal, fault_line_of};
+ghost use Rattle.std.specs.Prelude.{◌&&◌, ◌≡◌, suc, true, eqb, ◌≤◌, ◌<◌, MatchOption};
+ghost use Rattle.text.specs.Text.{field_count};
+ghost use Rattle.fields.specs.Fields.{in_range, value_at};
+ghost use Rattle.refusals.specs.Refusals.{Says};
+ghost use Rattle.statements.specs.Items.{free};
+ghost use Rattle.statements.specs.Lines.{head_refusal, head_of, output_refusal, output_of, is_fault, fault_refusal, fault_of, bridge_refusal, bridge_of, fault_line_refusal, fault_line_of};
 
-use fields::number_unless;
+use refusals::Flaw;
 
 // The weight is kept in a signed type, since fixtures may come to subtract outputs.
 #[derive(Clone, Copy)]
@@ -51,22 +53,35 @@ pub struct Head {
     pub cap: usize,
 }
 
-#[derive(Clone, Copy)]
-pub struct HeadLine {
-    pub number: u32,
-    pub head: Head,
+impl Output {
+    // What is read past the last output.
+    pub const NONE: Output = Output { line: 0, weight: 0 };
 }
 
-#[derive(Clone, Copy)]
-pub struct OutputLine {
-    pub number: u32,
-    pub output: Output,
+impl Pair {
+    // A pair that names no line.
+    pub const FREE: Pair = Pair {
+        line: 0,
+        value: false,
+    };
 }
 
-#[derive(Clone, Copy)]
-pub struct FaultLine {
-    pub number: u32,
-    pub fault: Fault,
+impl Bridge {
+    // A bridge that joins no inputs.
+    pub const NONE: Bridge = Bridge {
+        first: 0,
+        second: 0,
+    };
+}
+
+impl Fault {
+    // The fault of the sound circuit: it names no line and joins no inputs.
+    pub const SOUND: Fault = Fault {
+        first: Pair::FREE,
+        second: Pair::FREE,
+        third: Pair::FREE,
+        bridge: Bridge::NONE,
+    };
 }
 
 // LINE,VALUE as the fields have them.
@@ -76,152 +91,148 @@ struct PairFields {
     value: u16,
 }
 
-pub fn head_line(line: &[u8]) -> HeadLine
-    ensures { (result.number ≡ head_refusal line.now) × (result.head ≡ head_of line.now) }
+// The pair at field k of a line of so many fields, where there is one.
+#[tactic(auto, using(fields::proofs::PlainLines::absent))]
+fn pair_fields(line: &[u8], k: usize, fields: usize) -> Option<PairFields>
+    requires in_line { k ≤ 5 }
+    requires counted { fields ≡ field_count line.now }
+    ensures { MatchOption result ((fields ≤ k) × (value_at line.now k ≡ 0) × (value_at line.now (suc k) ≡ 0)) (λ p. (k < fields) × (p.line ≡ value_at line.now k) × (p.value ≡ value_at line.now (suc k))) }
 {
+    if k < fields {
+        Some(PairFields {
+            line: fields::value_at(line, k),
+            value: fields::value_at(line, k + 1),
+        })
+    } else {
+        None
+    }
+}
+
+fn pair_in_range(pair: Option<PairFields>) -> bool
+    ensures { MatchOption pair (result ≡ true) (λ p. result ≡ (in_range p.line 1 56 && in_range p.value 0 1)) }
+{
+    pair.is_none_or(|p| fields::in_range(p.line, 1, 56) && fields::in_range(p.value, 0, 1))
+}
+
+// A pair that is not there names no line.
+fn stuck(pair: Option<PairFields>) -> Pair
+    ensures { MatchOption pair (result ≡ free) (λ p. (result.line ≡ p.line) × (result.value ≡ eqb p.value 1)) }
+{
+    pair.map_or(
+        Pair::FREE,
+        |p| Pair {
+            line: p.line,
+            value: p.value == 1,
+        },
+    )
+}
+
+#[tactic(auto, unfolding(crate::specs::Lines::head_refusal, crate::specs::Lines::is_head, crate::specs::Lines::head_fits, crate::specs::Lines::head_of, fields::specs::Fields::fits, fields::specs::Fields::unless))]
+pub fn head_line(line: &[u8]) -> Result<Head, Flaw>
+    ensures { Says result (head_refusal line.now) (head_of line.now) }
+{
+    Flaw::Malformed.unless(fields::is_line(line, b"circuit", 1, 6))?;
     let n = fields::value_at(line, 1);
     let g = fields::value_at(line, 2);
     let m = fields::value_at(line, 3);
     let q = fields::value_at(line, 4);
     let k = fields::value_at(line, 5);
-    let formed = fields::is_line(line, b"circuit", 1, 6);
     let fit = fields::in_range(n, 1, 8)
-        & fields::in_range(g, 0, 48)
-        & fields::in_range(m, 1, 4)
-        & fields::in_range(q, 1, 32)
-        & fields::in_range(k, 1, 4);
-    HeadLine {
-        number: number_unless(formed, 2, number_unless(fit, 3, 0)),
-        head: Head {
-            inputs: n as usize,
-            gates: g as usize,
-            outputs: m as usize,
-            faults: q as usize,
-            cap: k as usize,
-        },
-    }
+        && fields::in_range(g, 0, 48)
+        && fields::in_range(m, 1, 4)
+        && fields::in_range(q, 1, 32)
+        && fields::in_range(k, 1, 4);
+    Flaw::OutOfRange.unless(fit)?;
+    Ok(Head {
+        inputs: n as usize,
+        gates: g as usize,
+        outputs: m as usize,
+        faults: q as usize,
+        cap: k as usize,
+    })
 }
 
 // `top` is the circuit's last line.
-pub fn output_line(top: usize, line: &[u8]) -> OutputLine
-    ensures { (result.number ≡ output_refusal top line.now) × (result.output ≡ output_of line.now) }
+#[tactic(auto, unfolding(crate::specs::Lines::output_refusal, crate::specs::Lines::is_output, crate::specs::Lines::output_fits, crate::specs::Lines::output_of, fields::specs::Fields::fits, fields::specs::Fields::unless))]
+pub fn output_line(top: usize, line: &[u8]) -> Result<Output, Flaw>
+    ensures { Says result (output_refusal top line.now) (output_of line.now) }
 {
+    Flaw::Malformed.unless(fields::is_line(line, b"output", 1, 3))?;
     let n = fields::value_at(line, 1);
     let w = fields::value_at(line, 2);
-    let formed = fields::is_line(line, b"output", 1, 3);
-    let fit = fields::in_range(n, 1, 56) & fields::in_range(w, 1, 15);
-    let exist = (n as usize) <= top;
-    OutputLine {
-        number: number_unless(formed, 2, number_unless(fit, 3, number_unless(exist, 5, 0))),
-        output: Output {
-            line: n,
-            weight: w as i16,
-        },
-    }
+    Flaw::OutOfRange.unless(fields::in_range(n, 1, 56) && fields::in_range(w, 1, 15))?;
+    Flaw::NoSuchLine.unless(n as usize <= top)?;
+    Ok(Output {
+        line: n,
+        weight: w as i16,
+    })
 }
 
-fn is_fault(line: &[u8]) -> bool
+// Whether the line, which has so many fields, is one of a fault: one to three pairs.
+#[tactic(auto, unfolding(crate::specs::Lines::is_fault))]
+fn is_fault(line: &[u8], fields: usize) -> bool
+    requires { fields ≡ field_count line.now }
     ensures { result ≡ is_fault line.now }
 {
-    let fields = text::fields(line);
-    if !((fields == 3) | (fields == 5) | (fields == 7)) {
-        return false;
-    }
-    fields::is_line(line, b"fault", 1, fields)
-}
-
-fn pair_at(line: &[u8], k: usize) -> PairFields
-    requires { k ≤ 5 }
-    ensures { (result.line ≡ value_at line.now k) × (result.value ≡ value_at line.now (suc k)) }
-{
-    PairFields {
-        line: fields::value_at(line, k),
-        value: fields::value_at(line, k + 1),
-    }
-}
-
-fn pair_in_range(absent: bool, p: PairFields) -> bool
-    ensures { result ≡ pair_in_range absent p.line p.value }
-{
-    absent | (fields::in_range(p.line, 1, 56) & fields::in_range(p.value, 0, 1))
+    matches!(fields, 3 | 5 | 7) && fields::is_line(line, b"fault", 1, fields)
 }
 
 // A fault of stuck lines.
-fn fault_line(top: usize, line: &[u8]) -> FaultLine
-    ensures { (result.number ≡ fault_refusal top line.now) × (result.fault ≡ fault_of line.now) }
+#[tactic(auto, unfolding(crate::specs::Lines::fault_refusal, crate::specs::Lines::fault_fits, crate::specs::Lines::pair_fits, crate::specs::Lines::pair_in_range, crate::specs::Lines::lines_exist, crate::specs::Lines::lines_rise, crate::specs::Lines::rises_at, crate::specs::Lines::fault_of, crate::specs::Lines::pair_at, fields::specs::Fields::fits, fields::specs::Fields::unless))]
+fn fault_line(top: usize, line: &[u8]) -> Result<Fault, Flaw>
+    ensures { Says result (fault_refusal top line.now) (fault_of line.now) }
 {
     let fields = text::fields(line);
-    let a = pair_at(line, 1);
-    let b = pair_at(line, 3);
-    let c = pair_at(line, 5);
-    let formed = is_fault(line);
-    let fit = pair_in_range(fields <= 1, a)
-        & pair_in_range(fields <= 3, b)
-        & pair_in_range(fields <= 5, c);
-    let exist = ((a.line as usize) <= top)
-        & ((b.line as usize) <= top)
-        & ((c.line as usize) <= top);
-    let rise = ((fields <= 3) | (a.line < b.line)) & ((fields <= 5) | (b.line < c.line));
-    FaultLine {
-        number: number_unless(
-            formed,
-            2,
-            number_unless(fit, 3, number_unless(exist, 5, number_unless(rise, 6, 0))),
-        ),
-        fault: Fault {
-            first: Pair {
-                line: a.line,
-                value: a.value == 1,
-            },
-            second: Pair {
-                line: b.line,
-                value: b.value == 1,
-            },
-            third: Pair {
-                line: c.line,
-                value: c.value == 1,
-            },
-            bridge: Bridge {
-                first: 0,
-                second: 0,
-            },
-        },
-    }
+    Flaw::Malformed.unless(is_fault(line, fields))?;
+    let a = pair_fields(line, 1, fields);
+    let b = pair_fields(line, 3, fields);
+    let c = pair_fields(line, 5, fields);
+    Flaw::OutOfRange.unless(pair_in_range(a) && pair_in_range(b) && pair_in_range(c))?;
+    let first = stuck(a);
+    let second = stuck(b);
+    let third = stuck(c);
+    let exist = first.line as usize <= top
+        && second.line as usize <= top
+        && third.line as usize <= top;
+    Flaw::NoSuchLine.unless(exist)?;
+    let rise = (b.is_none() || first.line < second.line)
+        && (c.is_none() || second.line < third.line);
+    Flaw::NotRising.unless(rise)?;
+    Ok(Fault {
+        first,
+        second,
+        third,
+        bridge: Bridge::NONE,
+    })
 }
 
 // A bridge of two inputs.
-fn bridge_line(inputs: usize, line: &[u8]) -> FaultLine
-    ensures { (result.number ≡ bridge_refusal inputs line.now) × (result.fault ≡ bridge_of line.now) }
+#[tactic(auto, unfolding(crate::specs::Lines::bridge_refusal, crate::specs::Lines::is_bridge, crate::specs::Lines::bridge_fits, crate::specs::Lines::inputs_rise, crate::specs::Lines::bridge_of, fields::specs::Fields::fits, fields::specs::Fields::unless))]
+fn bridge_line(inputs: usize, line: &[u8]) -> Result<Fault, Flaw>
+    ensures { Says result (bridge_refusal inputs line.now) (bridge_of line.now) }
 {
+    Flaw::Malformed.unless(fields::is_line(line, b"bridge", 1, 3))?;
     let i = fields::value_at(line, 1);
     let j = fields::value_at(line, 2);
-    let formed = fields::is_line(line, b"bridge", 1, 3);
-    let fit = fields::in_range(i, 1, 56) & fields::in_range(j, 1, 56);
-    let rise = ((i as usize) <= inputs) & ((j as usize) <= inputs) & (i < j);
-    let free = Pair {
-        line: 0,
-        value: false,
-    };
-    FaultLine {
-        number: number_unless(formed, 2, number_unless(fit, 3, number_unless(rise, 19, 0))),
-        fault: Fault {
-            first: free,
-            second: free,
-            third: free,
-            bridge: Bridge {
-                first: i,
-                second: j,
-            },
+    Flaw::OutOfRange.unless(fields::in_range(i, 1, 56) && fields::in_range(j, 1, 56))?;
+    Flaw::NotInputs.unless(i as usize <= inputs && j as usize <= inputs && i < j)?;
+    Ok(Fault {
+        bridge: Bridge {
+            first: i,
+            second: j,
         },
-    }
+        ..Fault::SOUND
+    })
 }
 
 // A fault line of either kind, of a text of so many inputs whose last line is `top`.
-pub fn fault_or_bridge(inputs: usize, top: usize, line: &[u8]) -> FaultLine
-    ensures { (result.number ≡ fault_line_refusal inputs top line.now) × (result.fault ≡ fault_line_of line.now) }
+#[tactic(auto, unfolding(crate::specs::Lines::fault_line_refusal, crate::specs::Lines::fault_line_of, crate::specs::Lines::names_bridge))]
+pub fn fault_or_bridge(inputs: usize, top: usize, line: &[u8]) -> Result<Fault, Flaw>
+    ensures { Says result (fault_line_refusal inputs top line.now) (fault_line_of line.now) }
 {
     if text::same(text::field(line, 0), b"bridge") {
-        return bridge_line(inputs, line);
+        bridge_line(inputs, line)
+    } else {
+        fault_line(top, line)
     }
-    fault_line(top, line)
 }

@@ -2,7 +2,6 @@ pub mod AcceptedTables
 pub mod MarksSoFar
 pub mod TableAcceptance
 pub mod TableAssembling
-pub mod TableCounts
 pub mod TableFormsMeant
 pub mod TableLinesWritten
 pub mod TableNumbers

@@ -1,7 +1,7 @@
 -- What acceptance of a table means:
 --   table-right                      an accepted table has 2^N marks of 0, 1 and 2, is within the ranges, and its faults name inputs
 --   TableRead, table-read-through    how an accepted text is read: its first line, its marks, its fault lines
---   table-accepted-as, table-accepted-right    the table of the parser's answer
+--   table-body-well-formed    so is the table that the lines after a right first line give
 --   table-head-fits, marks-fit, marks-below    what the tests of the first two lines show
 use mathlib.Core.Path.{◌≡◌, refl, sym, ap, ◌∙◌, subst}
 use mathlib.Core.Bool.{Bool, true, false, cond, ◌&&◌, false≢true}
@@ -10,7 +10,8 @@ use Prim.Native.Nat.{ℕ, zero, suc, ◌+◌, ◌<◌, ◌≤◌, ◌^◌}
 use native.Mathlib.Omega.{arith}
 use lib.Dec.{eqb, lit≤}
 use lib.ListN.{length, length-map}
-use borrow.Author.Tests.{eqb-true, eq-eqb, lt-ltb}
+use borrow.Author.Tests.{eqb-true, lt-ltb}
+use Rattle.std.specs.Prelude.{Ok}
 use Rattle.text.specs.Text.{before, after, has_byte, line_end}
 use Rattle.integer.specs.ListTests.{Below}
 use Rattle.integer.proofs.Bools.{both}
@@ -26,21 +27,13 @@ use Rattle.sections.proofs.BridgesWritten.{fault-right}
 use Rattle.sections.proofs.LinesDue.{line-answered, text-answered}
 use Rattle.sections.proofs.LinesRead.{lines-said}
 use Rattle.tables.specs.TableLines.{is_table_head, table_head_fits, table_head_refusal, table_head_of, one_mark, free_mark, doubled_mark, all_marks, mark_refusal, marks_of}
-use Rattle.tables.specs.TableParsing.{TableParse, accepted_table, rejected_table, table_faults_in, on_faults, table_end, table_body, table_of, table_meaning}
+use Rattle.tables.specs.TableHeads.{TableHeadRight}
+use Rattle.tables.specs.TableParsing.{TableParse, accepted_table, rejected_table, table_faults_in, on_faults, table_end, table_body, table_of}
 use Rattle.tables.specs.TableWellFormed.{TableRight}
-use Rattle.tables.specs.Tables.{TruthTable, truth_table_of}
-use Rattle.tables.specs.declared.ParsedTable.{ParsedTable}
+use Rattle.tables.specs.Tables.{TruthTable}
 use Rattle.tables.specs.declared.TableHead.{TableHead}
 
 -- one line
-
-pub record TableHeadRight (h : TableHead) : Type 0 where
-  pub inputs-low : 1 ≤ h.inputs
-  pub inputs-high : h.inputs ≤ 8
-  pub faults-low : 1 ≤ h.faults
-  pub faults-high : h.faults ≤ 32
-  pub cap-low : 1 ≤ h.cap
-  pub cap-high : h.cap ≤ 4
 
 pub table-head-fits : (l : List ℕ) → table_head_refusal l ≡ 0 → TableHeadRight (table_head_of l)
 unfolding table_head_refusal table_head_fits table_head_of
@@ -138,6 +131,10 @@ table-body-right h right rest t b =
       faults-right = λ j k. let s = f.0 j k in rw (b.inputs_are, s.is) (fault-right h.inputs h.inputs s.line s.passes);
     }
 
+-- what holds of the table that the lines after a right first line give
+pub table-body-well-formed : (h : TableHead) → TableHeadRight h → (rest : List ℕ) (t : TruthTable) → accepted_table t ≡ table_body h rest → TableRight t
+table-body-well-formed h right rest t e = table-body-right h right rest t (table-body-read h rest t (sym e))
+
 -- the first line passes, and the lines after it are read
 pub table-read-through : (text : List ℕ) (t : TruthTable) → table_of text ≡ accepted_table t
     → (line_refusal table_head_refusal text ≡ 0) × TableRead (table_head_of (before line_end text)) (after line_end text) t
@@ -156,12 +153,3 @@ pub table-right : (text : List ℕ) (t : TruthTable) → table_of text ≡ accep
 table-right text t e =
     let r = table-read-through text t e in
     table-body-right (table_head_of (before line_end text)) (table-head-fits (before line_end text) (unless-passed (has_byte line_end text) 2 _ (lit≤ tt) r.0).1) (after line_end text) t r.1
-
--- of the parser's answer
-module _ (text : List ℕ) (p : ParsedTable) (means : table_meaning p ≡ table_of text) (number : p.number ≡ 0) where
-  pub table-accepted-as : table_of text ≡ accepted_table (truth_table_of p.table)
-  unfolding table_meaning
-  table-accepted-as = sym means ∙ rw (eq-eqb p.number 0 number)
-
-  pub table-accepted-right : TableRight (truth_table_of p.table)
-  table-accepted-right = table-right text (truth_table_of p.table) table-accepted-as

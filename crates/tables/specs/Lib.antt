@@ -5,3 +5,5 @@ pub mod TablePlaces
 pub mod TableText
 pub mod TableWellFormed
 pub mod Tables
+pub mod TableArrays
+pub mod TableHeads

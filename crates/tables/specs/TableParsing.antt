@@ -7,9 +7,8 @@ use Rattle.statements.specs.Lines.{fault_line_of}
 use Rattle.statements.specs.declared.Fault.{Fault}
 use Rattle.sections.specs.Sections.{Read, items, line_refused, line_refusal, lines_of}
 use Rattle.sections.specs.FaultLines.{nth_fault_refusal}
-use Rattle.tables.specs.Tables.{TruthTable, truth_table_of}
+use Rattle.tables.specs.Tables.{TruthTable}
 use Rattle.tables.specs.TableLines.{table_head_refusal, table_head_of, mark_refusal, marks_of}
-use Rattle.tables.specs.declared.ParsedTable.{ParsedTable}
 use Rattle.tables.specs.declared.TableHead.{TableHead}
 
 pub data TableParse : Type 0 where
@@ -47,7 +46,3 @@ table_of text =
     (cond (eqb (line_refusal table_head_refusal text) 0)
     (table_body (table_head_of (before line_end text)) (after line_end text))
     (rejected_table (line_refusal table_head_refusal text) 1))
-
--- what the parser's answer means: number 0 where the text is accepted
-unfoldable pub table_meaning : ParsedTable → TableParse
-table_meaning p = cond (eqb p.number 0) (accepted_table (truth_table_of p.table)) (rejected_table p.number p.place)

@@ -3,55 +3,78 @@
 
 mod parsing;
 
-ghost use Rattle.std.specs.Prelude.{◌≡◌, ◌≤◌};
-ghost use Rattle.tables.specs.Tables.{truth_table_of, TableSized, table_fault_at};
+ghost use Rattle.std.specs.Prelude.{◌≡◌, ◌≤◌, length};
+ghost use Rattle.tables.specs.Tables.{table_fault_at};
+ghost use Rattle.tables.specs.TableWellFormed.{TableRight};
 
-pub use parsing::{is_table, no_table, parse};
-use statements::{Bridge, Fault, Pair};
+pub use parsing::{is_table, parse};
+use statements::Fault;
+use std::marker::Model;
 
 // The numbers of the first line.
 #[derive(Clone, Copy)]
-pub struct TableHead {
-    pub inputs: usize,
-    pub faults: usize,
-    pub cap: usize,
+struct TableHead {
+    inputs: usize,
+    faults: usize,
+    cap: usize,
 }
 
-// The marks are doubled, one for each row: 0, 1 for a free row, 2. Each array is in use as far as the head says.
-#[derive(Clone, Copy)]
+/// The table of an accepted text. In contracts a table is its truth table.
+#[derive(Drop)]
 pub struct Table {
-    pub head: TableHead,
-    pub marks: [u8; 256],
-    pub faults: [Fault; 32],
+    // the marks are doubled, one for each row: 0, 1 for a free row, 2; each array is in use as far as the head says: there is no heap
+    head: TableHead,
+    marks: [u8; 256],
+    faults: [Fault; 32],
 }
 
-// Number 0 where the text is accepted. The struct stands for an enum, which cannot hold arrays.
-#[derive(Clone, Copy)]
-pub struct ParsedTable {
-    pub number: u32,
-    pub place: usize,
-    pub table: Table,
+impl Model for Table {
+    ghost use Rattle.tables.specs.Tables.{TruthTable};
+
+    ghost Value = { TruthTable };
+
+    ghost use Rattle.tables.specs.TableArrays.{truth_table_of, AcceptedTable};
+
+    ghost view = { truth_table_of };
+
+    ghost invariant = { AcceptedTable };
 }
 
-// Fault `number` of the table, from 1; the fault that names no line for 0.
-pub fn fault_at(t: Table, number: usize) -> Fault
-    requires { TableSized t × (number ≤ t.head.faults) }
-    ensures { result ≡ table_fault_at (truth_table_of t) number }
-{
-    if number == 0 {
-        let free = Pair {
-            line: 0,
-            value: false,
-        };
-        return Fault {
-            first: free,
-            second: free,
-            third: free,
-            bridge: Bridge {
-                first: 0,
-                second: 0,
-            },
-        };
+impl Table {
+    pub fn inputs(&self) -> usize
+        ensures value { result ≡ self.now.inputs }
+        ensures right { TableRight self.now }
+    {
+        self.head.inputs
     }
-    t.faults[number - 1]
+
+    pub fn cap(&self) -> usize
+        ensures { result ≡ self.now.cap }
+    {
+        self.head.cap
+    }
+
+    pub fn marks(&self) -> &[u8]
+        ensures value { result.now ≡ self.now.marks }
+        ensures right { TableRight self.now }
+    {
+        let due: usize = 1 << self.head.inputs;
+        &self.marks[..due]
+    }
+
+    pub fn faults(&self) -> &[Fault]
+        ensures value { result.now ≡ self.now.faults }
+        ensures right { TableRight self.now }
+    {
+        &self.faults[..self.head.faults]
+    }
+
+    /// Fault `number` of the table, from 1; the fault that names no line for 0.
+    pub fn fault(&self, number: usize) -> Fault
+        requires { number ≤ length self.now.faults }
+        ensures value { result ≡ table_fault_at self.now number }
+        ensures right { TableRight self.now }
+    {
+        sections::fault_at(self.faults(), number)
+    }
 }

@@ -4,6 +4,7 @@
 --   number-empty, number-long, number-zero, number_digits    what the tests before the digits show
 --   digit_low, digit-high, digit-step, digit-end             what one turn of the loop over the digits shows
 --   ten-le       powers of ten grow
+--   digit_steps  these laws, for the proof of `decimal`
 use mathlib.Core.Path.{◌≡◌, refl}
 use mathlib.Core.Bool.{Bool, true, false, not, cond, ◌&&◌, ◌||◌, and-false, or-true}
 use mathlib.Core.List.{List, [], ◌∷◌}
@@ -15,8 +16,7 @@ use lib.ListN.{length, drop, get_or, drop_of_length-le}
 use lib.Dec.{eqb, leb, lit<}
 use borrow.Author.Tests.{eq-eqb, ne_eqb, le-leb, lt-leb, leb-true}
 use Rattle.integer.proofs.Bools.{both}
-use Rattle.text.specs.declared.Number.{Number}
-use Rattle.text.specs.declared.Number.TheVariants.{Value, Bad}
+use Rattle.std.specs.Prelude.{Option, Some, None}
 use Rattle.text.specs.Text.{digits, decimal_from, well_formed, number_of}
 use Rattle.text.proofs.Parts.{step}
 
@@ -40,28 +40,28 @@ formed-le l e =
     let d = (both (eqb (length l) 1 || not (eqb (get_or l 0 0) 48)) (digits l) a.1).1 in
     omega (arith, decimal-lt 0 l d, ten-le s)
 
-pub number-le : (l : List ℕ) (v : ℕ) → number_of l ≡ Value v → v ≤ 9999
+pub number-le : (l : List ℕ) (v : ℕ) → number_of l ≡ Some v → v ≤ 9999
 unfolding number_of
 number-le l v e = by (well_formed l) (formed-le l) e
   where
-    by : (t : Bool) → (t ≡ true → decimal_from 0 l ≤ 9999) → cond t (Value (decimal_from 0 l)) Bad ≡ Value v → v ≤ 9999
+    by : (t : Bool) → (t ≡ true → decimal_from 0 l ≤ 9999) → cond t (Some (decimal_from 0 l)) None ≡ Some v → v ≤ 9999
     by true h e = let q : decimal_from 0 l ≡ v = cc in omega (arith, h refl)
     by false h e = let z : ◌≡◌ {A = ℕ} 0 1 = cc in absurd (omega arith)
 
--- the number that digits from here on make after v; bad where one is no digit
-unfoldable pub number_from : ℕ → List ℕ → Number
-number_from v l = cond (digits l) (Value (decimal_from v l)) Bad
+-- the number that digits from here on make after v; none where one is no digit
+unfoldable pub number_from : ℕ → List ℕ → Option ℕ
+number_from v l = cond (digits l) (Some (decimal_from v l)) None
 
 module _ (l : List ℕ) where
-  pub number-empty : length l ≡ 0 → number_of l ≡ Bad
+  pub number-empty : length l ≡ 0 → number_of l ≡ None
   unfolding number_of well_formed
   number-empty e = rw (lt-leb 1 (length l) (omega arith))
 
-  pub number-long : 4 < length l → number_of l ≡ Bad
+  pub number-long : 4 < length l → number_of l ≡ None
   unfolding number_of well_formed
   number-long h = rw (lt-leb (length l) 4 h, and-false)
 
-  pub number-zero : 1 < length l → get_or l 0 0 ≡ 48 → number_of l ≡ Bad
+  pub number-zero : 1 < length l → get_or l 0 0 ≡ 48 → number_of l ≡ None
   unfolding number_of well_formed
   number-zero h e = rw (ne_eqb (length l) 1 (λ q. omega arith), eq-eqb (get_or l 0 0) 48 e, and-false)
 
@@ -72,11 +72,11 @@ module _ (l : List ℕ) where
 
 -- digits from i on
 module _ (v : ℕ) (l : List ℕ) (i : ℕ) (h : i < length l) where
-  pub digit_low : get_or l i 0 < 48 → number_from v (drop i l) ≡ Bad
+  pub digit_low : get_or l i 0 < 48 → number_from v (drop i l) ≡ None
   unfolding number_from digits
   digit_low e = rw (step l i h, lt-leb 48 (get_or l i 0) e)
 
-  pub digit-high : 57 < get_or l i 0 → number_from v (drop i l) ≡ Bad
+  pub digit-high : 57 < get_or l i 0 → number_from v (drop i l) ≡ None
   unfolding number_from digits
   digit-high e = rw (step l i h, lt-leb (get_or l i 0) 57 e, and-false)
 
@@ -84,6 +84,8 @@ module _ (v : ℕ) (l : List ℕ) (i : ℕ) (h : i < length l) where
   unfolding number_from digits decimal_from
   digit-step d e = rw (step l i h, le-leb 48 (get_or l i 0) d, le-leb (get_or l i 0) 57 e)
 
-pub digit-end : (v : ℕ) (l : List ℕ) (i : ℕ) → length l ≤ i → number_from v (drop i l) ≡ Value v
+pub digit-end : (v : ℕ) (l : List ℕ) (i : ℕ) → length l ≤ i → number_from v (drop i l) ≡ Some v
 unfolding number_from digits decimal_from
 digit-end v l i h = rw (drop_of_length-le l h)
+
+pub ruleset digit_steps = (number-empty, number-long, number-zero, number_digits, digit_low, digit-high, digit-step, digit-end)

@@ -7,8 +7,9 @@
 --   only-field, first-separated    a list is its only field, or its first field, a comma, and what stands after it
 --   no_field         where there is no field k it is the empty part at the list's end
 --   span-within, span-field     the same for the two ends that `locate` hands back
---   index-hit, index-miss, index-end, count-hit, count-miss, count-end, rest-next, rest-past, rest-here
---                    what one turn of a loop shows
+--   fields_counted, index-hit, index-miss, index-end
+--                    the same in the library's words: what a search from `from` on finds, and how many fields a count finds
+--   rest-next, rest-past, rest-here    what one turn of the loop over commas shows
 use mathlib.Core.Path.{◌≡◌, refl, sym, ap, ◌∙◌}
 use mathlib.Core.Bool.{Bool, true, false, cond}
 use mathlib.Core.List.{List, [], ◌∷◌, ◌++◌}
@@ -20,7 +21,9 @@ use native.Mathlib.Omega.{arith}
 use lib.ListN.{length, take, drop, get_or, length-drop, drop_of_length-le}
 use lib.Seq.{drop-cons, drop-drop, length-take-le, take_all}
 use lib.Dec.{eqb}
-use borrow.Author.Tests.{eq-eqb, ne_eqb, eqb-true, lt-ltb, le-ltb}
+use borrow.Author.Tests.{eqb-true, eq-eqb, ne_eqb, lt-ltb, le-ltb}
+use Rattle.std.proofs.lemmas.Grind.{common_steps}
+use Rattle.std.specs.List.{count_by}
 use Rattle.text.specs.Text.{comma, index_of, before, after, has_byte, field_of, field_start, field_count}
 
 -- the list from i is the element at i and the list from i + 1
@@ -35,6 +38,12 @@ index-le b (x ∷ l) = by (eqb x b) (index-le b l)
     by : (t : Bool) → index_of b l ≤ length l → cond t zero (suc (index_of b l)) ≤ suc (length l)
     by true h = zero-le
     by false h = omega arith
+
+-- the library's word for how many fields there are
+pub fields_counted : (l : List ℕ) → field_count l ≡ 1 + count_by (λ x. eqb x comma) l
+unfolding field_count
+fields_counted [] = refl
+fields_counted (x ∷ l) = rw (fields_counted l) (grind (arith, common_steps))
 
 pub split-first : (b : ℕ) (l : List ℕ) → index_of b l < length l → l ≡ before b l ++ (b ∷ after b l)
 unfolding index_of before after
@@ -51,11 +60,11 @@ split-first b (x ∷ l) h = by (eqb x b) refl (split-first b l) h
 module _ (b : ℕ) (l : List ℕ) (i : ℕ) where
   pub index-hit : i < length l → get_or l i 0 ≡ b → i + index_of b (drop i l) ≡ i
   unfolding index_of
-  index-hit h e = rw (step l i h, eq-eqb (get_or l i 0) b e) (omega arith)
+  index-hit h e = rw (drop-cons l i 0, eq-eqb (get_or l i 0) b e) (omega arith)
 
   pub index-miss : i < length l → (get_or l i 0 ≡ b → ⊥) → i + index_of b (drop i l) ≡ (i + 1) + index_of b (drop (i + 1) l)
   unfolding index_of
-  index-miss h e = rw (step l i h, ne_eqb (get_or l i 0) b e) (omega arith)
+  index-miss h e = rw (drop-cons l i 0, ne_eqb (get_or l i 0) b e, add-one i) (omega arith)
 
   pub index-end : length l ≤ i → i + index_of b (drop i l) ≡ i
   unfolding index_of
@@ -217,20 +226,6 @@ no_field l (suc k) h = by (no_field (after comma l) k) (dec_le (length l) (index
         let m = lt_of_not-le n in
         let e = ih (omega (arith, count-suc l m)) in
         (field-suc l k ∙ e.0, start-suc l k m ∙ omega (arith, e.1, length-after comma l))
-
--- the count of a scan that has come to i
-module _ (l : List ℕ) (i : ℕ) where
-  pub count-hit : i < length l → get_or l i 0 ≡ comma → field_count (drop i l) ≡ field_count (drop (i + 1) l) + 1
-  unfolding field_count
-  count-hit h e = rw (step l i h, eq-eqb (get_or l i 0) comma e) (omega arith)
-
-  pub count-miss : i < length l → (get_or l i 0 ≡ comma → ⊥) → field_count (drop i l) ≡ field_count (drop (i + 1) l)
-  unfolding field_count
-  count-miss h e = rw (step l i h, ne_eqb (get_or l i 0) comma e)
-
-  pub count-end : length l ≤ i → field_count (drop i l) ≡ 1
-  unfolding field_count
-  count-end h = rw (drop_of_length-le l h)
 
 -- after i commas, the last just before a, field k of the list is field k - i of the rest from a
 pub record Rest (l : List ℕ) (k i a : ℕ) : Type 0 where

@@ -4,9 +4,7 @@
 --   "A number is 1 to 4 decimal digits, with no leading zero except in `0` itself."
 use Prim.Native.Char.{code}
 use Prim.Native.String.{String, [] as none, ◌∷◌ as ◌then◌}
-use Rattle.std.specs.Prelude.{ℕ, zero, suc, ◌+◌, ◌-◌, ◌*◌, Bool, true, false, not, cond, ◌&&◌, ◌||◌, List, [], ◌∷◌, length, take, drop, get_or, eqb, leb, ltb}
-use Rattle.text.specs.declared.Number.{Number}
-use Rattle.text.specs.declared.Number.TheVariants.{Value, Bad}
+use Rattle.std.specs.Prelude.{ℕ, zero, suc, ◌+◌, ◌-◌, ◌*◌, Bool, true, false, not, cond, ◌&&◌, ◌||◌, List, [], ◌∷◌, length, take, drop, get_or, eqb, leb, ltb, Option, Some, None}
 
 -- the bytes of a word of ASCII
 abbrev pub bytes_of : String → List ℕ
@@ -76,5 +74,5 @@ decimal_from v (x ∷ rest) = decimal_from (v * 10 + (x - 48)) rest
 unfoldable pub well_formed : List ℕ → Bool
 well_formed l = (leb 1 (length l) && leb (length l) 4) && ((eqb (length l) 1 || not (eqb (get_or l 0 0) 48)) && digits l)
 
-unfoldable pub number_of : List ℕ → Number
-number_of l = cond (well_formed l) (Value (decimal_from 0 l)) Bad
+unfoldable pub number_of : List ℕ → Option ℕ
+number_of l = cond (well_formed l) (Some (decimal_from 0 l)) None

@@ -4,71 +4,48 @@
 ghost use Rattle.std.specs.Prelude.{◌≡◌, ◌+◌, length, drop};
 ghost use Rattle.text.specs.Text.{index_of, field_of, field_start, further, field_count, same_bytes, number_of};
 
+use std::ops::Range;
+
 // A text has at most so many bytes.
 pub const TEXT_BYTES: usize = 16384;
 
-// What a field says as a number.
-#[derive(Clone, Copy)]
-pub enum Number {
-    Value(u16),
-    Bad,
-}
-
-// Where a field stands: `text[start..end]`.
-#[derive(Clone, Copy)]
-pub struct Span {
-    pub start: usize,
-    pub end: usize,
-}
-
-// The index of the first b from `from` on, or the text's end where there is none.
+// The index of the first b from `from` on, or the text's end where there is none: both end the part that starts at `from`.
 pub fn find(text: &[u8], from: usize, b: u8) -> usize
     ensures { result ≡ from + index_of b (drop from text.now) }
 {
-    let mut i = from;
-    while i < text.len() {
+    if text.len() <= from {
+        return from;
+    }
+    // by `position` on the rest of the text the lines of a circuit take a quarter longer to read
+    for i in from..text.len() {
         if text[i] == b {
             return i;
         }
-        i += 1;
     }
-    i
+    text.len()
 }
 
 // How many fields the text has: one more than commas.
+#[tactic(auto, using(crate::proofs::Parts::fields_counted))]
 pub fn fields(text: &[u8]) -> usize
     ensures { result ≡ field_count text.now }
 {
-    let mut count: usize = 1;
-    let mut i: usize = 0;
-    while i < text.len() {
-        if text[i] == b',' {
-            count += 1;
-        }
-        i += 1;
-    }
-    count
+    1 + text.iter().filter(|x| **x == b',').count()
 }
 
 // Where field k stands, from 0; at the text's end where there is none.
-pub fn locate(text: &[u8], k: usize) -> Span
+pub fn locate(text: &[u8], k: usize) -> Range<usize>
     ensures { (result.start ≡ field_start text.now k) × (result.end ≡ field_start text.now k + length (field_of text.now k)) }
 {
-    let mut start: usize = 0;
-    let mut i: usize = 0;
-    while i < k {
+    let mut start = 0;
+    for _ in 0..k {
         let comma = find(text, start, b',');
         if text.len() <= comma {
-            let end = text.len();
-            return Span { start: end, end };
+            return text.len()..text.len();
         }
         start = comma + 1;
-        i += 1;
     }
-    Span {
-        start,
-        end: find(text, start, b','),
-    }
+    start..find(text, start, b',')
 }
 
 // Field k, from 0: the part of the text between two commas or ends, and the empty part at the text's end where there is none. The second promise
@@ -84,50 +61,28 @@ pub fn field<'a>(text: &'a [u8], k: usize) -> &'a [u8]
 }
 
 // Whether two texts are the same, byte for byte.
+#[tactic(auto, using(crate::proofs::Words::same_pointwise))]
 pub fn same(a: &[u8], b: &[u8]) -> bool
     ensures { result ≡ same_bytes a.now b.now }
 {
-    if a.len() != b.len() {
-        return false;
-    }
-    let mut i: usize = 0;
-    while i < a.len() {
-        if a[i] != b[i] {
-            return false;
-        }
-        i += 1;
-    }
-    true
+    a == b
 }
 
 // The number that a field says: one to four digits, the first no 0 unless it stands alone.
-pub fn decimal(s: &[u8]) -> Number
+#[tactic(auto, using(crate::proofs::Decimals::digit_steps))]
+pub fn decimal(s: &[u8]) -> Option<u16>
     ensures { result ≡ number_of s.now }
 {
     let n = s.len();
-    if n == 0 {
-        return Number::Bad;
+    if n == 0 || 4 < n || (1 < n && s[0] == b'0') {
+        return None;
     }
-    if 4 < n {
-        return Number::Bad;
-    }
-    if 1 < n {
-        if s[0] == b'0' {
-            return Number::Bad;
+    let mut v = 0;
+    for &x in s {
+        if !x.is_ascii_digit() {
+            return None;
         }
+        v = v * 10 + u16::from(x - b'0');
     }
-    let mut v: u16 = 0;
-    let mut i: usize = 0;
-    while i < n {
-        let x = s[i];
-        if x < b'0' {
-            return Number::Bad;
-        }
-        if b'9' < x {
-            return Number::Bad;
-        }
-        v = v * 10 + ((x - b'0') as u16);
-        i += 1;
-    }
-    Number::Value(v)
+    Some(v)
 }

@@ -2,61 +2,54 @@
 #![tactic(auto)]
 
 use cases::lines;
-use planner::Planned;
 use reading::Reading;
-use report::Reported;
+use refusals::Refusal;
+use search::LabelSet;
 
 // Whether the working numbers from `from` on are the noise that was in them.
 fn is_kept(work: &[u32], from: usize) -> bool {
-    let mut i = from;
-    while i < work.len() {
-        if work[i] != 2779096485 {
-            return false;
-        }
-        i += 1;
-    }
-    true
+    work.iter().skip(from).all(|x| *x == 2779096485)
 }
 
 // Whether the bytes from `from` on are the `#` that were there.
 fn is_blank(out: &[u8], from: usize) -> bool {
-    let mut i = from;
-    while i < out.len() {
-        if out[i] != 35 {
-            return false;
-        }
-        i += 1;
-    }
-    true
+    out.iter().skip(from).all(|x| *x == b'#')
 }
 
-fn plan_numbers(p: Planned) -> [i32; 7] {
-    let labels = p.labels;
-    [
-        lines::narrow_word(p.number),
-        lines::narrow(p.place),
-        lines::narrow(p.size),
-        lines::narrow_word(labels[0]),
-        lines::narrow_word(labels[1]),
-        lines::narrow_word(labels[2]),
-        lines::narrow_word(labels[3]),
-    ]
+fn plan_numbers(plan: Result<LabelSet, Refusal>) -> [i32; 7] {
+    match plan {
+        Ok(set) => [
+            0,
+            0,
+            lines::narrow(set.size),
+            lines::narrow_word(set.labels[0]),
+            lines::narrow_word(set.labels[1]),
+            lines::narrow_word(set.labels[2]),
+            lines::narrow_word(set.labels[3]),
+        ],
+        Err(r) => [
+            lines::narrow_word(r.number()),
+            lines::narrow(r.place()),
+            0,
+            0,
+            0,
+            0,
+            0,
+        ],
+    }
 }
 
 // How many working numbers may have changed: those of a plan, 13 and 14.
-fn free_of(number: u32) -> usize {
-    match number {
-        0 | 13 | 14 => planner::WORKING_NUMBERS,
-        _ => 0,
+fn free_of(plan: Result<LabelSet, Refusal>) -> usize {
+    match plan {
+        Ok(_) | Err(Refusal::Silent { .. } | Refusal::NoSet) => planner::WORKING_NUMBERS,
+        Err(_) => 0,
     }
 }
 
 fn plan_by(text: &[u8], work: &mut [u32], due: &[u8]) -> bool {
-    let p = planner::plan(text, work);
-    if !is_kept(work, free_of(p.number)) {
-        return false;
-    }
-    lines::are_due(&plan_numbers(p), due)
+    let plan = planner::plan(text, work);
+    is_kept(work, free_of(plan)) && lines::are_due(&plan_numbers(plan), due)
 }
 
 // The plan, with `lent` working numbers.
@@ -68,45 +61,30 @@ pub fn plan_holds(text: &[u8], lent: usize, due: &[u8]) -> bool {
     plan_by(text, &mut work[..lent], due)
 }
 
-// The number of the report call where `due` bytes are due: 8 exactly where nothing is written.
-fn report_number(due: usize) -> u32 {
-    if due == 0 { 8 } else { 0 }
-}
-
-fn report_left(r: Reported, out: &[u8], due: &[u8]) -> bool {
-    let bytes = r.bytes;
-    if r.number != report_number(due.len()) {
-        return false;
+// Whether the report is what is due, with the bytes after it as they were; where nothing is due nothing is written, with 8.
+fn report_left(report: Result<usize, Refusal>, out: &[u8], due: &[u8]) -> bool {
+    match report {
+        Ok(bytes) => bytes == due.len() && out.starts_with(due) && is_blank(out, bytes),
+        Err(r) => r.number() == 8 && due.is_empty() && is_blank(out, 0),
     }
-    if out.len() < bytes {
-        return false;
-    }
-    if !is_blank(out, bytes) {
-        return false;
-    }
-    text::same(&out[..bytes], due)
 }
 
 // How many working numbers may have changed, by the report that is due.
 fn free_by(due: &[u8]) -> usize {
-    if text::same(text::field(due, 0), b"plan") {
-        return planner::WORKING_NUMBERS;
+    let refusal = text::field(due, 1);
+    if text::same(text::field(due, 0), b"plan")
+        || text::same(refusal, b"13")
+        || text::same(refusal, b"14")
+    {
+        planner::WORKING_NUMBERS
+    } else {
+        0
     }
-    if text::same(text::field(due, 1), b"13") {
-        return planner::WORKING_NUMBERS;
-    }
-    if text::same(text::field(due, 1), b"14") {
-        return planner::WORKING_NUMBERS;
-    }
-    0
 }
 
 fn report_by(text: &[u8], out: &mut [u8], work: &mut [u32], due: &[u8]) -> bool {
-    let r = report::report(text, out, work);
-    if !is_kept(work, free_by(due)) {
-        return false;
-    }
-    report_left(r, out, due)
+    let report = report::report(text, out, work);
+    is_kept(work, free_by(due)) && report_left(report, out, due)
 }
 
 // The report, with `room` bytes and `lent` working numbers.
@@ -147,10 +125,15 @@ pub fn reading_holds(
             is_fraction(value, sum, count)
                 && lines::are_due(&[0, 0, 3, lines::narrow_word(fixed)], due)
         }
-        Reading::Refused { number, place } => {
+        Reading::Refused(r) => {
             is_fraction(0.0, sum, count)
                 && lines::are_due(
-                    &[lines::narrow_word(number), lines::narrow(place), 0, 0],
+                    &[
+                        lines::narrow_word(r.number()),
+                        lines::narrow(r.place()),
+                        0,
+                        0,
+                    ],
                     due,
                 )
         }
@@ -167,32 +150,28 @@ pub fn pair_holds(
     count: u32,
     due: &[u8],
 ) -> bool {
-    let c = fixture::compare(text, fault, mask, values);
-    let readings = c.readings;
-    if !is_fraction(readings.sound, sums[0], count) {
-        return false;
+    match fixture::compare(text, fault, mask, values) {
+        Ok(readings) => {
+            is_fraction(readings.sound, sums[0], count)
+                && is_fraction(readings.faulty, sums[1], count)
+                && is_fraction(readings.difference, sums[2], count)
+                && lines::are_due(&[0, 0], due)
+        }
+        Err(r) => {
+            sums == [0; 3]
+                && lines::are_due(
+                    &[lines::narrow_word(r.number()), lines::narrow(r.place())],
+                    due,
+                )
+        }
     }
-    if !is_fraction(readings.faulty, sums[1], count) {
-        return false;
-    }
-    if !is_fraction(readings.difference, sums[2], count) {
-        return false;
-    }
-    let numbers = [lines::narrow_word(c.number), lines::narrow(c.place)];
-    lines::are_due(&numbers, due)
 }
 
 // The field's bytes, where it starts and how long it is.
 pub fn field_holds(text: &[u8], number: usize, start: usize, due: &[u8]) -> bool {
-    let s = text::locate(text, number);
-    if s.start != start {
-        return false;
-    }
-    if s.end < start {
-        return false;
-    }
-    if s.end - start != due.len() {
-        return false;
-    }
-    text::same(text::field(text, number), due)
+    let part = text::locate(text, number);
+    part.start == start
+        && start <= part.end
+        && part.end - start == due.len()
+        && text::same(text::field(text, number), due)
 }

@@ -1,16 +1,19 @@
 -- The butterfly on a list of h + h numbers, turn by turn:
 --   at_turn            the list before the turn i: in each half the first i numbers are new
 --   at-start, at-end   before the turn 0 it is the list itself, and before the turn h the list of sums and differences
---   read_low, read-high, butterfly-turn    what a turn reads, and what it leaves
+--   sum_fits, difference-fits, machine-turn    what a turn computes, and what it leaves
 use mathlib.Core.Path.{◌≡◌, sym, ap, ap₂, ◌∙◌}
 use mathlib.Core.List.{List, [], ◌∷◌, ◌++◌, append-nil}
-use Prim.Native.Nat.{ℕ, ◌+◌, ◌<◌}
+use Prim.Native.Nat.{ℕ, ◌+◌, ◌<◌, ◌^◌}
 use native.Mathlib.Nat.{zero-add, suc-add}
 use native.Mathlib.Omega.{arith}
-use lib.IntN.{ℤ, pos}
+use lib.IntN.{ℤ, pos, ◌+ℤ◌, ◌-ℤ◌, nat_abs}
 use lib.ListN.{length, set, take, drop, length-drop, take-append-drop, get_or-append, drop_of_length-le}
 use lib.Seq.{set-append_left, length-take-le, get_or-take, get_or-drop, get_or-append-add}
-use Rattle.integer.specs.Tab.{tab, nth}
+use mir.Syntax.{w64}
+use mir.Val.{SFits, to_z, of_z}
+use Rattle.integer.specs.Tab.{tab, nth, Within}
+use Rattle.integer.proofs.Machine.{add-fits, sub-fits, add_kept, sub-kept}
 use Rattle.integer.proofs.Tabs.{tab-step, tab-ahead, length_part}
 use Rattle.transform.specs.Steps.{sum_at, difference_at, halves_mixed}
 
@@ -40,18 +43,18 @@ module _ (a : List ℤ) (h i : ℕ) (e : length a ≡ h + h) (l : i < h) where
   then-long : length (sums a h (i + 1)) ≡ h
   then-long = length_part (i + 1) (sum_at a h) (take h a) (omega (arith, low)) ∙ low
 
-  pub read_low : nth (at_turn a h i) i ≡ nth a i
+  read_low : nth (at_turn a h i) i ≡ nth a i
   read_low =
       get_or-append (sums a h i) (differences a h i) (pos 0) i (omega (arith, now-long))
       ∙ tab-ahead (take h a) (sum_at a h) (pos 0) i i (omega arith) ∙ get_or-take h a i (pos 0) l
 
-  pub read-high : nth (at_turn a h i) (h + i) ≡ nth a (h + i)
+  read-high : nth (at_turn a h i) (h + i) ≡ nth a (h + i)
   read-high =
       ap (λ (n : ℕ). nth (at_turn a h i) (n + i)) (sym now-long)
       ∙ get_or-append-add (sums a h i) (differences a h i) i (pos 0)
       ∙ tab-ahead (drop h a) (difference_at a h) (pos 0) i i (omega arith) ∙ get_or-drop h a i (pos 0)
 
-  pub butterfly-turn : set (set (at_turn a h i) i (sum_at a h i)) (h + i) (difference_at a h i) ≡ at_turn a h (i + 1)
+  butterfly-turn : set (set (at_turn a h i) i (sum_at a h i)) (h + i) (difference_at a h i) ≡ at_turn a h (i + 1)
   butterfly-turn =
       ap (λ (r : List ℤ). set r (h + i) (difference_at a h i))
       (set-append_left (sums a h i) (differences a h i) i (sum_at a h i) (omega (arith, now-long))
@@ -59,6 +62,30 @@ module _ (a : List ℤ) (h i : ℕ) (e : length a ≡ h + h) (l : i < h) where
       ∙ ap (λ (n : ℕ). set (sums a h (i + 1) ++ differences a h i) (n + i) (difference_at a h i)) (sym then-long)
       ∙ set-append-add (sums a h (i + 1)) (differences a h i) i (difference_at a h i)
       ∙ ap (λ (r : List ℤ). sums a h (i + 1) ++ r) (tab-step (drop h a) (difference_at a h) (pos 0) i (omega (arith, high)))
+
+  -- and as the machine computes it, where a sum of two has room
+  module _ (now : List ℤ) (so_far : now ≡ at_turn a h i) (small : Within 4194304000 a) where
+    x-is : of_z w64 (nth now i) ≡ of_z w64 (nth a i)
+    x-is = ap (λ (r : List ℤ). of_z w64 (nth r i)) so_far ∙ ap (of_z w64) read_low
+
+    y-is : of_z w64 (nth now (h + i)) ≡ of_z w64 (nth a (h + i))
+    y-is = ap (λ (r : List ℤ). of_z w64 (nth r (h + i))) so_far ∙ ap (of_z w64) read-high
+
+    room : nat_abs (nth a i) + nat_abs (nth a (h + i)) < 2 ^ 63
+    room = omega (arith, small i (omega arith), small (h + i) (omega arith))
+
+    pub sum_fits : SFits w64 (to_z w64 (of_z w64 (nth now i)) +ℤ to_z w64 (of_z w64 (nth now (h + i))))
+    sum_fits = add-fits w64 (nth a i) (nth a (h + i)) x-is y-is room
+
+    pub difference-fits : SFits w64 (to_z w64 (of_z w64 (nth now i)) -ℤ to_z w64 (of_z w64 (nth now (h + i))))
+    difference-fits = sub-fits w64 (nth a i) (nth a (h + i)) x-is y-is room
+
+    pub machine-turn : set (set now i (to_z w64 (of_z w64 (to_z w64 (of_z w64 (nth now i)) +ℤ to_z w64 (of_z w64 (nth now (h + i)))))))
+        (h + i) (to_z w64 (of_z w64 (to_z w64 (of_z w64 (nth now i)) -ℤ to_z w64 (of_z w64 (nth now (h + i)))))) ≡ at_turn a h (i + 1)
+    machine-turn =
+        ap₂ (λ (u v : ℤ). set (set now i u) (h + i) v) (add_kept w64 (nth a i) (nth a (h + i)) x-is y-is room) (sub-kept w64 (nth a i) (nth a (h + i)) x-is y-is room)
+        ∙ ap (λ (r : List ℤ). set (set r i (sum_at a h i)) (h + i) (difference_at a h i)) so_far
+        ∙ butterfly-turn
 
 pub at-start : (a : List ℤ) (h : ℕ) → a ≡ at_turn a h 0
 unfolding tab

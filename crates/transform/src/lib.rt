@@ -12,21 +12,17 @@ fn butterfly(a: &mut [i64], h: usize)
     requires within { Within 4194304000 a.old }
     ensures { a.new ≡ halves_mixed a.old h }
 {
-    let mut i: usize = 0;
-    while i < h {
-        let j = h + i;
+    for i in 0..h {
         let x = a[i];
-        let y = a[j];
-        let s = x + y;
-        let d = x - y;
-        a[i] = s;
-        a[j] = d;
-        i += 1;
+        let y = a[h + i];
+        a[i] = x + y;
+        a[h + i] = x - y;
     }
 }
 
 // The spectrum of two numbers. It and the next three are the recursion's last levels, with sizes that the compiler knows: it makes straight code of
-// them, which saves most of the calls and of the loads and stores.
+// them, which saves most of the calls and of the loads and stores. One generic function for the four would call itself at half its const parameter, and a
+// const argument is no computed number.
 fn two(a: &mut [i64])
     requires a_len { length a.old ≡ 2 }
     requires within { Within 2048000 a.old }

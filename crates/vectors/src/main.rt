@@ -25,24 +25,25 @@ ghost use Rattle.std.specs.Prelude.{◌≤◌};
 ghost use Rattle.std.specs.Counts.{IsPrefixLen};
 
 use cases::heads::{Call, CaseHead};
+use cases::numbers;
 use cases::numbers::argument;
 use std::io;
 use std::io::Read;
 
 // The sums of a pair.
 fn three(list: &[i32]) -> [i32; 3] {
-    if list.len() != 3 {
-        return [0, 0, 0];
+    match list {
+        [sound, faulty, difference] => [*sound, *faulty, *difference],
+        _ => [0, 0, 0],
     }
-    [list[0], list[1], list[2]]
 }
 
 // The sum of a reading.
 fn one(list: &[i32]) -> i32 {
-    if list.len() != 1 {
-        return 0;
+    match list {
+        [sum] => *sum,
+        _ => 0,
     }
-    list[0]
 }
 
 // Whether the call's answer is what is due.
@@ -54,20 +55,19 @@ fn call_holds(
     second: &[u32],
     due: &[u8],
 ) -> bool {
-    let call = h.call;
     let x = argument(first, 0);
     let y = argument(first, 1);
     let z = argument(first, 2);
     let last = argument(second, 0);
-    match call {
-        Call::Unknown => false,
-        Call::Coefficient => list_calls::coefficient_holds(list, x, due),
-        Call::Plan => text_calls::plan_holds(text, h.work, due),
-        Call::Report => text_calls::report_holds(text, h.room, h.work, due),
-        Call::Reading => text_calls::reading_holds(text, x, y, one(list), last, due),
-        Call::Pair => text_calls::pair_holds(text, x, y, z, three(list), last, due),
-        Call::Field => text_calls::field_holds(text, x as usize, last as usize, due),
-        _ => list_calls::lent_holds(call, text, list, first, second, h.room, due),
+    match h.call {
+        None => false,
+        Some(Call::Coefficient) => list_calls::coefficient_holds(list, x, due),
+        Some(Call::Plan) => text_calls::plan_holds(text, h.work, due),
+        Some(Call::Report) => text_calls::report_holds(text, h.room, h.work, due),
+        Some(Call::Reading) => text_calls::reading_holds(text, x, y, one(list), last, due),
+        Some(Call::Pair) => text_calls::pair_holds(text, x, y, z, three(list), last, due),
+        Some(Call::Field) => text_calls::field_holds(text, x as usize, last as usize, due),
+        Some(call) => list_calls::lent_holds(call, text, list, first, second, h.room, due),
     }
 }
 
@@ -81,23 +81,16 @@ fn arguments_hold(
     second: &mut [u32],
     due: &[u8],
 ) -> bool {
-    if !cases::numbers::naturals(firsts, first) {
-        return false;
-    }
-    if !cases::numbers::naturals(seconds, second) {
-        return false;
-    }
-    call_holds(h, text, list, first, second, due)
+    numbers::fill(firsts, first)
+        && numbers::fill(seconds, second)
+        && call_holds(h, text, list, first, second, due)
 }
 
 // The arguments and what is due are in `rest`.
 fn rest_holds(h: CaseHead, text: &[u8], list: &[i32], rest: &[u8]) -> bool {
     let a = h.first;
     let b = h.second;
-    if 4 < a {
-        return false;
-    }
-    if 4 < b {
+    if 4 < a || 4 < b {
         return false;
     }
     let next = 12 * a;
@@ -119,11 +112,8 @@ fn rest_holds(h: CaseHead, text: &[u8], list: &[i32], rest: &[u8]) -> bool {
     )
 }
 
-fn list_holds(h: CaseHead, text: &[u8], numbers: &[u8], list: &mut [i32], rest: &[u8]) -> bool {
-    if !cases::numbers::integers(numbers, list) {
-        return false;
-    }
-    rest_holds(h, text, list, rest)
+fn list_holds(h: CaseHead, text: &[u8], fields: &[u8], list: &mut [i32], rest: &[u8]) -> bool {
+    numbers::fill(fields, list) && rest_holds(h, text, list, rest)
 }
 
 // Everything after the text is in `rest`.
@@ -142,13 +132,7 @@ fn numbers_hold(h: CaseHead, text: &[u8], rest: &[u8]) -> bool {
 
 fn case_holds(h: CaseHead, case: &[u8]) -> bool {
     let t = h.text;
-    if !cases::heads::is_right(h) {
-        return false;
-    }
-    if case.len() < t {
-        return false;
-    }
-    numbers_hold(h, &case[..t], &case[t..])
+    cases::heads::is_right(h) && t <= case.len() && numbers_hold(h, &case[..t], &case[t..])
 }
 
 // Reads until `space` is full, the input ends or a read fails, and says how many bytes it put there.
@@ -168,15 +152,13 @@ fn read_full(rt: &HostRuntime, space: &mut [u8]) -> usize
 
 // Reads the case that the head says, and tries it.
 fn next_holds(rt: &HostRuntime, head: &[u8; 54], space: &mut [u8]) -> bool {
-    let h = cases::heads::read(head);
+    let Some(h) = cases::heads::read(head) else {
+        return false;
+    };
     let size = h.text + 12 * (h.list + h.first + h.second) + h.due;
-    if space.len() < size {
-        return false;
-    }
-    if read_full(rt, &mut space[..size]) != size {
-        return false;
-    }
-    case_holds(h, &space[..size])
+    size <= space.len()
+        && read_full(rt, &mut space[..size]) == size
+        && case_holds(h, &space[..size])
 }
 
 // How many cases came, and how many of them do not hold.
@@ -186,24 +168,19 @@ struct Tally {
     wrong: u64,
 }
 
-fn one_unless(b: bool) -> u64
-    ensures { result ≤ 1 }
-{
-    if b { 0 } else { 1 }
-}
-
 fn try_all(rt: &HostRuntime, space: &mut [u8]) -> Tally {
-    let mut cases: u64 = 0;
-    let mut wrong: u64 = 0;
-    while cases < 1000000 {
+    let mut t = Tally { cases: 0, wrong: 0 };
+    for _ in 0..1000000u64 {
         let mut head = [0u8; 54];
         if read_full(rt, &mut head) == 0 {
             break;
         }
-        wrong += one_unless(next_holds(rt, &head, space));
-        cases += 1;
+        t.cases += 1;
+        if !next_holds(rt, &head, space) {
+            t.wrong += 1;
+        }
     }
-    Tally { cases, wrong }
+    t
 }
 
 fn main(rt: HostRuntime) -> io::Result<()> {

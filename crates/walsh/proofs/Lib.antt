@@ -1,1 +1,2 @@
+pub mod Sizes
 pub mod Undoing

@@ -19,9 +19,7 @@ use Rattle.integer.proofs.Division.{quot-exact, quot-multiple, multiple-mod}
 use Rattle.integer.proofs.Group.{mul-cancel}
 use Rattle.integer.proofs.Tabs.{length-tab, get_or-tab, tab-ext, tab-nth}
 use Rattle.transform.specs.Spectrum.{signed_sum, spectrum_of}
-use Rattle.screen.specs.Answers.{answer_number, and_then, refuse_if, minus, outside, inputs_of, screen_of}
-use Rattle.screen.specs.declared.Answer.{Answer}
-use Rattle.screen.specs.declared.Answer.TheVariants.{Done}
+use Rattle.screen.specs.Answers.{Answer, Done, answer_number, and_then, refuse_if, minus, outside, inputs_of, screen_of}
 use Rattle.transform.proofs.Halving.{sum-equal, signed-sum-scale, twice}
 use Rattle.screen.proofs.Screens.{Screened, first-passed, screen-done, done-screen, screened-within, within-screened, inputs-power, inputs-most, outside-small, small-outside}
 use Rattle.transform.proofs.Spectra.{length-spectrum, nth-spectrum, spectrum-rule, within-spectrum}

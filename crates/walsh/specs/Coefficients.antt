@@ -1,12 +1,19 @@
 -- The answer of the call for one coefficient, by document 01's order for calls on lists: "Calls on lists test 9, 12, 10, 8, 11." It lends no result,
 -- so 8 and 11 cannot come.
-use Rattle.std.specs.Prelude.{ℕ, List, ℤ, pos, ltb, length}
+use Rattle.std.specs.Prelude.{ℕ, List, ℤ, pos, ltb, length, Result}
 use Rattle.transform.specs.Spectrum.{coefficient_of}
-use Rattle.screen.specs.Answers.{minus, screen_of}
-use Rattle.screen.specs.declared.Answer.{Answer}
-use Rattle.screen.specs.declared.Answer.TheVariants.{Done, Refused}
-use Rattle.walsh.specs.declared.Found.{Found}
-use Rattle.walsh.specs.declared.Found.TheVariants.{Coefficient, Refused as Unfound}
+use Rattle.refusals.specs.Refusals.{told}
+use Rattle.refusals.specs.declared.Refusal.{Refusal}
+use Rattle.screen.specs.Answers.{Answer, Done, Refused, minus, screen_of}
+
+-- a coefficient, or document 01's number and place of the refusal
+pub data Found : Type 0 where
+  Coefficient : ℤ → Found
+  Unfound : ℕ → ℕ → Found
+
+-- what an answer of the code says
+abbrev pub found_by : Result ℤ Refusal → Found
+found_by = told Coefficient Unfound
 
 -- the call for one coefficient has no result to lend; 12 unless the label is below the length
 abbrev pub found : Answer → ℤ → Found

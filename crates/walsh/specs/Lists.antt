@@ -2,9 +2,8 @@
 --   "The list call takes row values from -1,000 to 1,000. The way back takes coefficients from -2,048,000 to 2,048,000; the row is the same
 --   signed sum divided by the length."
 use Rattle.std.specs.Prelude.{ℕ, List, true, ℤ, pos, length}
-use Rattle.screen.specs.Answers.{and_then, minus, screen_of}
+use Rattle.screen.specs.Answers.{Answer, and_then, minus, screen_of}
 use Rattle.transform.specs.Spectrum.{spectrum_of}
-use Rattle.screen.specs.declared.Answer.{Answer}
 use Rattle.results.specs.Quotients.{divided_answer, quotients_of}
 
 unfoldable pub spectrum_answer : List ℤ → ℕ → Answer

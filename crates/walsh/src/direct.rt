@@ -2,10 +2,9 @@
 ghost use Rattle.std.specs.Prelude.{◌≡◌, ◌≤◌, length};
 ghost use Rattle.integer.specs.Tab.{Within};
 ghost use Rattle.transform.specs.Spectrum.{coefficient_of};
-ghost use Rattle.walsh.specs.Coefficients.{found_of};
+ghost use Rattle.walsh.specs.Coefficients.{found_by, found_of};
 
-use crate::Found;
-use screen::Answer;
+use refusals::Refusal;
 
 // The signed sum of the rows: the count of ones of label AND row decides the sign of each term.
 fn signed_sum(rows: &[i32], label: u32) -> i32
@@ -13,28 +12,24 @@ fn signed_sum(rows: &[i32], label: u32) -> i32
     requires within { Within 1000 rows.now }
     ensures { result ≡ coefficient_of rows.now label }
 {
-    let mut sum: i32 = 0;
-    let mut i: usize = 0;
-    while i < rows.len() {
+    let mut sum = 0;
+    for (i, &row) in rows.iter().enumerate() {
         let x = i as u32;
-        let row = rows[i];
         if u32::count_ones(label & x) % 2 == 0 {
-            sum = sum + row;
+            sum += row;
         } else {
-            sum = sum - row;
+            sum -= row;
         }
-        i += 1;
     }
     sum
 }
 
-// The coefficient of the rows at a label; 9, 12 unless the label is below the length, 10.
-pub fn coefficient(rows: &[i32], label: u32) -> Found
-    ensures { result ≡ found_of rows.now label }
+/// The coefficient of the rows at a label; or 9, 12 unless the label is below the length, 10.
+#[tactic(auto, unfolding(crate::specs::Coefficients::found_of))]
+pub fn coefficient(rows: &[i32], label: u32) -> Result<i32, Refusal>
+    ensures { found_by result ≡ found_of rows.now label }
 {
     let right = (label as usize) < rows.len();
-    match screen::screen(rows, -1000, 1000, right, 0, 0) {
-        Answer::Refused { number, place } => Found::Refused { number, place },
-        Answer::Done => Found::Coefficient(signed_sum(rows, label)),
-    }
+    screen::screen(rows, -1000, 1000, right, 0, 0)?;
+    Ok(signed_sum(rows, label))
 }

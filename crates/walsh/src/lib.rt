@@ -9,10 +9,3 @@ mod lists;
 
 pub use direct::coefficient;
 pub use lists::{rows, spectrum};
-
-// What the call for one coefficient answers.
-#[derive(Clone, Copy)]
-pub enum Found {
-    Coefficient(i32),
-    Refused { number: u32, place: usize },
-}

@@ -20,7 +20,7 @@ use Rattle.integer.proofs.Bools.{both, neither}
 use Rattle.integer.specs.ListTests.{any}
 use Rattle.integer.specs.Tab.{nth}
 use Rattle.text.specs.Text.{comma, line_end, index_of, before, after, has_byte, field_of, field_count, digits, number_of}
-use Rattle.text.specs.declared.Number.TheVariants.{Value}
+use Rattle.std.specs.Prelude.{Some}
 use Rattle.writing.specs.Writing.{Small, decimal_of, minus_sign, integer_of, gather, number_field, numbers_of, line_of}
 use Rattle.writing.proofs.ReadBack.{digits-only, read_back, decimal-rises}
 use Rattle.writing.proofs.Writings.{natural-written, line-long}
@@ -181,7 +181,7 @@ module _ (word : List ℕ) (numbers : List ℤ) (rest : List ℕ) (lacks : Lacks
 
 -- ---- natural numbers of at most four digits
 
-pub natural-read : (n : ℕ) → n < 10000 → number_of (integer_of (pos n)) ≡ Value n
+pub natural-read : (n : ℕ) → n < 10000 → number_of (integer_of (pos n)) ≡ Some n
 natural-read n h = ap number_of (natural-written n) ∙ read_back n h
 
 small_at : (ns : List ℕ) → Small ns → (k : ℕ) → k < length ns → get_or ns k 0 < 10000
@@ -193,7 +193,7 @@ module _ (word : List ℕ) (ns : List ℕ) (small : Small ns) where
   number_at : (k : ℕ) → nth (map pos ns) k ≡ pos (get_or ns k 0)
   number_at k = get_or-map pos ns k 0
 
-  pub natural-field : (k : ℕ) → Lacks comma word → k < length ns → number_of (field_of (word ++ numbers_of (map pos ns)) (suc k)) ≡ Value (get_or ns k 0)
+  pub natural-field : (k : ℕ) → Lacks comma word → k < length ns → number_of (field_of (word ++ numbers_of (map pos ns)) (suc k)) ≡ Some (get_or ns k 0)
   natural-field k lacks h =
       ap number_of (number-field word (map pos ns) k lacks (omega (arith, length-map ns pos)) ∙ ap integer_of (number_at k))
       ∙ natural-read (get_or ns k 0) (small_at ns small k h)

@@ -16,7 +16,7 @@ use borrow.Author.Tests.{ltb-true, ltb-false, le-leb, leb-true, ne_eqb, eqb-true
 use Rattle.integer.proofs.Bools.{both, either}
 use Rattle.text.specs.Text.{digits, decimal_from, well_formed, number_of}
 use Rattle.text.proofs.Decimals.{decimal-lt}
-use Rattle.text.specs.declared.Number.TheVariants.{Value, Bad}
+use Rattle.std.specs.Prelude.{Some, None}
 use Rattle.writing.specs.Writing.{decimal_digit, decimal_to, decimal_of}
 use Rattle.writing.proofs.Writings.{tenth, decimal-one, decimal-more, decimal-length}
 
@@ -111,7 +111,7 @@ formed (suc k) h =
     tests (leb 1 (length l)) (leb (length l) 4) (eqb (length l) 1) (eqb (get_or l 0 0) 48) (digits l)
     (le-leb 1 (length l) r.1) (le-leb (length l) 4 (decimal-length 3 (suc k) h)) (ne_eqb (get_or l 0 0) 48 r.0) (by_most (suc (suc k)) (suc k) (omega arith)).1
 
-pub read_back : (n : ℕ) → n < 10000 → number_of (decimal_of n) ≡ Value n
+pub read_back : (n : ℕ) → n < 10000 → number_of (decimal_of n) ≡ Some n
 unfolding number_of
 read_back n h = rw (formed n h, digits-read n)
 
@@ -158,10 +158,10 @@ formed-only (x ∷ l) e =
         let more = eqb-false x 48 (not-true (eqb x 48) some) in
         ap (λ (m : List ℕ). m ++ (y ∷ l)) (is_one x f) ∙ digits-after (0 * 10 + (x - 48)) (y ∷ l) (omega (arith, (digit-range x f).0, more)) d
 
-pub number-only : (l : List ℕ) (v : ℕ) → number_of l ≡ Value v → l ≡ decimal_of v
+pub number-only : (l : List ℕ) (v : ℕ) → number_of l ≡ Some v → l ≡ decimal_of v
 unfolding number_of
 number-only l v e = by (well_formed l) (formed-only l) e
   where
-    by : (t : Bool) → (t ≡ true → l ≡ decimal_of (decimal_from 0 l)) → cond t (Value (decimal_from 0 l)) Bad ≡ Value v → l ≡ decimal_of v
+    by : (t : Bool) → (t ≡ true → l ≡ decimal_of (decimal_from 0 l)) → cond t (Some (decimal_from 0 l)) None ≡ Some v → l ≡ decimal_of v
     by true h e = let q : decimal_from 0 l ≡ v = cc in h refl ∙ ap decimal_of q
     by false h e = let z : ◌≡◌ {A = ℕ} 0 1 = cc in absurd (omega arith)

@@ -2,6 +2,7 @@
 --   placed-join      what is placed after what was placed is placed with it
 --   placed-turn      one byte more
 --   decimal-one, decimal-more    a number by its last digit
+--   decimals, integers, lines    what the proofs of `put_decimal`, `put_integer` and `put_line` use of these
 --   decimal-length, integer-length    a number below 10^k has at most k digits
 --   gather-length, gather-le, gather_ext    texts one after the other
 --   none_written, text-more, all-written    writing them, one more at a time
@@ -18,6 +19,7 @@ use lib.ListN.{length, take, drop, set, length-set, length-append, length-drop, 
 use lib.Signed.{lt_z}
 use lib.Seq.{length-take-le, drop-append-add, drop-drop, set_split, take_at}
 use borrow.Author.Tests.{lt-ltb, le-ltb, ltb-true, ltb-false}
+use Rattle.std.proofs.lemmas.Int.{to_z-of_z}
 use Rattle.integer.specs.Tab.{nth}
 use Rattle.text.specs.Text.{comma, line_end}
 use Rattle.writing.specs.Writing.{placed, decimal_digit, decimal_to, decimal_of, minus_sign, integer_of, number_field, gather, numbers_of, line_of}
@@ -127,38 +129,18 @@ decimal-more n h =
 
 -- writing a number: its only digit, or its last one after those of a tenth
 module _ (at n : ℕ) (out : List ℕ) (fits : at + length (decimal_of n) ≤ length out) where
-  module _ (h : n < 10) where
-    one-long : length (decimal_of n) ≡ 1
-    one-long = ap length (decimal-one n h)
+  pub one_written : n < 10 → set out at (decimal_digit n) ≡ placed at (decimal_of n) out
+  one_written h =
+      let room : at < length out = omega (arith, fits, ap length (decimal-one n h)) in
+      placed_one at (decimal_digit n) out room ∙ ap (λ (l : List ℕ). placed at l out) (sym (decimal-one n h))
 
-    pub one-room : at < length out
-    one-room = omega (arith, one-long, fits)
+  pub last_written : 10 ≤ n → (now : List ℕ) (end : ℕ) → now ≡ placed at (decimal_of (n / 10)) out → end ≡ at + length (decimal_of (n / 10))
+      → set now end (decimal_digit n) ≡ placed at (decimal_of n) out
+  last_written h now end e f =
+      let long = ap length (decimal-more n h) ∙ length-append (decimal_of (n / 10)) (decimal_digit n ∷ []) in
+      placed-turn at (decimal_digit n) (decimal_of (n / 10)) out now end e f (omega (arith, long, fits)) ∙ ap (λ (l : List ℕ). placed at l out) (sym (decimal-more n h))
 
-    pub one_end : at + 1 ≡ at + length (decimal_of n)
-    one_end = omega (arith, one-long)
-
-    pub one_written : set out at (decimal_digit n) ≡ placed at (decimal_of n) out
-    one_written = placed_one at (decimal_digit n) out one-room ∙ ap (λ (l : List ℕ). placed at l out) (sym (decimal-one n h))
-
-  module _ (h : 10 ≤ n) where
-    more-long : length (decimal_of n) ≡ length (decimal_of (n / 10)) + 1
-    more-long = ap length (decimal-more n h) ∙ length-append (decimal_of (n / 10)) (decimal_digit n ∷ [])
-
-    pub tenth-room : at + length (decimal_of (n / 10)) < length out
-    tenth-room = omega (arith, more-long, fits)
-
-    module _ (now : List ℕ) (end : ℕ) (e : now ≡ placed at (decimal_of (n / 10)) out) (f : end ≡ at + length (decimal_of (n / 10))) where
-      pub last-room : end < length now
-      last-room =
-          let k = ap length e ∙ length-placed at (decimal_of (n / 10)) out (omega (arith, tenth-room)) in
-          omega (arith, k, tenth-room, f)
-
-      pub last_end : end + 1 ≡ at + length (decimal_of n)
-      last_end = omega (arith, f, more-long)
-
-      pub last_written : set now end (decimal_digit n) ≡ placed at (decimal_of n) out
-      last_written =
-          placed-turn at (decimal_digit n) (decimal_of (n / 10)) out now end e f tenth-room ∙ ap (λ (l : List ℕ). placed at l out) (sym (decimal-more n h))
+pub ruleset decimals = (decimal-one, decimal-more, one_written, last_written, length-append, length-placed)
 
 -- a number below 10^k has at most k digits
 pub decimal-length : (k n : ℕ) → n < 10 ^ suc k → length (decimal_of n) ≤ suc k
@@ -180,28 +162,17 @@ unsigned m z size h = rw (h, size)
 pub natural-written : (n : ℕ) → integer_of (pos n) ≡ decimal_of n
 natural-written n = unsigned n (pos n) refl (le-ltb n 0 (omega arith))
 
--- writing an integer whose size is m: its sign, if any, then its size
-module _ (at m : ℕ) (z : ℤ) (out : List ℕ) (size : m ≡ nat_abs z) (fits : at + length (integer_of z) ≤ length out) where
-  module _ (h : lt_z z (pos 0) ≡ true) where
-    signed : integer_of z ≡ minus_sign ∷ decimal_of m
-    unfolding integer_of
-    signed = rw (h, size)
+pub signed-digits : (m : ℕ) (z : ℤ) → m ≡ nat_abs z → lt_z z (pos 0) ≡ true → integer_of z ≡ minus_sign ∷ decimal_of m
+unfolding integer_of
+signed-digits m z size h = rw (h, size)
 
-    pub sign-room : at < length out
-    sign-room = let e = ap length signed in omega (arith, e, fits)
+-- a sign, then a size
+pub signed_written : (at m : ℕ) (out : List ℕ) → at + 1 + length (decimal_of m) ≤ length out → placed (at + 1) (decimal_of m) (set out at minus_sign) ≡ placed at (minus_sign ∷ decimal_of m) out
+signed_written at m out fits =
+    let h : at < length out = omega (arith, fits) in
+    placed-more at (minus_sign ∷ []) (decimal_of m) out (set out at minus_sign) (at + 1) (placed_one at minus_sign out h) refl (omega (arith, fits))
 
-    pub size_room : at + 1 + length (decimal_of m) ≤ length (set out at minus_sign)
-    size_room = let e = ap length signed in let k = length-set out at minus_sign in omega (arith, e, k, fits)
-
-    pub signed-end : (end : ℕ) → end ≡ at + 1 + length (decimal_of m) → end ≡ at + length (integer_of z)
-    signed-end end e = let k = ap length signed in omega (arith, e, k)
-
-    pub signed-written : placed (at + 1) (decimal_of m) (set out at minus_sign) ≡ placed at (integer_of z) out
-    signed-written =
-        let k = size_room in
-        let l = length-set out at minus_sign in
-        placed-more at (minus_sign ∷ []) (decimal_of m) out (set out at minus_sign) (at + 1) (placed_one at minus_sign out sign-room) refl (omega (arith, k, l))
-        ∙ ap (λ (b : List ℕ). placed at b out) (sym signed)
+pub ruleset integers = (signed-digits, unsigned, signed_written, to_z-of_z, length-set)
 
 -- its digits, and a sign
 pub integer-length : (k : ℕ) (z : ℤ) → nat_abs z < 10 ^ suc k → length (integer_of z) ≤ suc (suc k)
@@ -302,22 +273,27 @@ module _ (B at : ℕ) (f : ℕ → List ℕ) (n : ℕ) (out : List ℕ) (each : 
       let m : (i + 1) * B ≤ n * B = mul-le-mul (omega (arith, h)) (le_refl B) in
       omega (arith, l, e, w.2, m, room)
 
--- a number with the comma before it
-module _ (numbers : List ℤ) (i : ℕ) (now : List ℕ) (end : ℕ) (fits : end + length (number_field numbers i) ≤ length now) where
+-- the next number with the comma before it, of numbers of which the first i are written
+module _ (at : ℕ) (numbers : List ℤ) (out : List ℕ) (fits : at + length (numbers_of numbers) ≤ length out) {i : ℕ} {now : List ℕ} {end : ℕ}
+    (w : WrittenSoFar at (number_field numbers) (length numbers) out i now end) (h : i < length numbers) where
+  field-room : end + length (number_field numbers i) ≤ length now
+  unfolding numbers_of
+  field-room = text-room at (number_field numbers) (length numbers) out fits w h
+
   pub comma-room : end < length now
   unfolding number_field
-  comma-room = omega (arith, fits)
+  comma-room = omega (arith, field-room)
 
   pub number-room : end + 1 + length (integer_of (nth numbers i)) ≤ length (set now end comma)
   unfolding number_field
-  number-room = omega (arith, fits, length-set now end comma)
+  number-room = omega (arith, field-room, length-set now end comma)
 
-  pub number-written : {r : ℕ} {new : List ℕ}
-      → (r ≡ end + 1 + length (integer_of (nth numbers i))) × (new ≡ placed (end + 1) (integer_of (nth numbers i)) (set now end comma))
-      → (r ≡ end + length (number_field numbers i)) × (new ≡ placed end (number_field numbers i) now)
-  unfolding number_field
-  number-written k =
-      (omega (arith, k.0), k.1 ∙ placed-more end (comma ∷ []) (integer_of (nth numbers i)) now (set now end comma) (end + 1) (placed_one end comma now comma-room) refl (omega (arith, fits)))
+  pub number-more : {r : ℕ} {new : List ℕ} → r ≡ end + 1 + length (integer_of (nth numbers i)) → new ≡ placed (end + 1) (integer_of (nth numbers i)) (set now end comma)
+      → WrittenSoFar at (number_field numbers) (length numbers) out (i + 1) new r
+  unfolding number_field numbers_of
+  number-more e f =
+      let g = placed-more end (comma ∷ []) (integer_of (nth numbers i)) now (set now end comma) (end + 1) (placed_one end comma now comma-room) refl (omega (arith, field-room)) in
+      text-more at (number_field numbers) (length numbers) out fits w h (omega (arith, e), f ∙ g)
 
 -- ---- lines
 
@@ -343,34 +319,16 @@ line-three word a b c =
     omega (arith, line-long word (a ∷ b ∷ c ∷ []), length-append (integer_of a ++ (comma ∷ integer_of b)) (comma ∷ integer_of c), length-append (integer_of a) (comma ∷ integer_of b))
 
 -- writing a line: its word, its numbers, its end
-module _ (at : ℕ) (word : List ℕ) (numbers : List ℤ) (out : List ℕ) (fits : at + length (line_of word numbers) ≤ length out) where
-  long : length (line_of word numbers) ≡ length word + length (numbers_of numbers) + 1
-  long = line-long word numbers
+pub line-written : (at : ℕ) (word : List ℕ) (numbers : List ℤ) (out : List ℕ) → at + length (line_of word numbers) ≤ length out
+    → (first : List ℕ) (word_end : ℕ) → first ≡ placed at word out → word_end ≡ at + length word
+    → (second : List ℕ) (end : ℕ) → second ≡ placed word_end (numbers_of numbers) first → end ≡ word_end + length (numbers_of numbers)
+    → set second end line_end ≡ placed at (line_of word numbers) out
+unfolding line_of
+line-written at word numbers out fits first word_end e f second end g k =
+    let long = line-long word numbers in
+    let two-long = length-append word (numbers_of numbers) in
+    let two = g ∙ placed-more at word (numbers_of numbers) out first word_end e f (omega (arith, long, fits)) in
+    placed-turn at line_end (word ++ numbers_of numbers) out second end two (omega (arith, two-long, f, k)) (omega (arith, two-long, long, fits))
+    ∙ ap (λ (l : List ℕ). placed at l out) (append_assoc word (numbers_of numbers) (line_end ∷ []))
 
-  pub word_room : at + length word ≤ length out
-  word_room = omega (arith, long, fits)
-
-  module _ (first : List ℕ) (word_end : ℕ) (e : first ≡ placed at word out) (f : word_end ≡ at + length word) where
-    pub numbers-room : word_end + length (numbers_of numbers) ≤ length first
-    numbers-room = let k = ap length e ∙ length-placed at word out word_room in omega (arith, long, fits, k, f)
-
-    module _ (second : List ℕ) (end : ℕ) (g : second ≡ placed word_end (numbers_of numbers) first) (k : end ≡ word_end + length (numbers_of numbers)) where
-      two-long : length (word ++ numbers_of numbers) ≡ length word + length (numbers_of numbers)
-      two-long = length-append word (numbers_of numbers)
-
-      two : second ≡ placed at (word ++ numbers_of numbers) out
-      two = g ∙ placed-more at word (numbers_of numbers) out first word_end e f (omega (arith, long, fits))
-
-      pub end-room : end < length second
-      end-room =
-          let l = ap length two ∙ length-placed at (word ++ numbers_of numbers) out (omega (arith, two-long, long, fits)) in
-          omega (arith, l, long, fits, f, k)
-
-      pub line-written : set second end line_end ≡ placed at (line_of word numbers) out
-      unfolding line_of
-      line-written =
-          placed-turn at line_end (word ++ numbers_of numbers) out second end two (omega (arith, two-long, f, k)) (omega (arith, two-long, long, fits))
-          ∙ ap (λ (l : List ℕ). placed at l out) (append_assoc word (numbers_of numbers) (line_end ∷ []))
-
-      pub line-end : end + 1 ≡ at + length (line_of word numbers)
-      line-end = omega (arith, long, f, k)
+pub ruleset lines = (line-long, line-written, length-append, length-placed)

@@ -1,25 +1,24 @@
 // A writer of bytes and decimals into a lent text. Each call writes from index `at` on and gives the index after what it wrote.
+// (A struct of `out` and `at` with methods proves too, and is no plainer: each promise would still ask for the room of its own text and say what
+// stands before it, in longer words.)
 #![tactic(auto)]
 
 ghost use Rattle.std.specs.Prelude.{◌≡◌, ◌+◌, ◌≤◌, nat_abs, length};
 ghost use Rattle.writing.specs.Writing.{placed, decimal_of, integer_of, numbers_of, line_of};
 
 // The bytes as they are.
+#[tactic(auto, unfolding(crate::specs::Writing::placed))]
 pub fn put(out: &mut [u8], at: usize, bytes: &[u8]) -> usize
     requires { at + length bytes.now ≤ length out.old }
     ensures value { result ≡ at + length bytes.now }
     ensures out_after { out.new ≡ placed at bytes.now out.old }
 {
-    let mut i: usize = 0;
-    while i < bytes.len() {
-        let b = bytes[i];
-        out[at + i] = b;
-        i += 1;
-    }
-    at + i
+    out[at..at + bytes.len()].copy_from_slice(bytes);
+    at + bytes.len()
 }
 
 // A number in decimal.
+#[tactic(auto, using(crate::proofs::Writings::decimals))]
 pub fn put_decimal(out: &mut [u8], at: usize, n: usize) -> usize
     requires { at + length (decimal_of n) ≤ length out.old }
     ensures value { result ≡ at + length (decimal_of n) }
@@ -35,22 +34,14 @@ pub fn put_decimal(out: &mut [u8], at: usize, n: usize) -> usize
     end + 1
 }
 
-fn magnitude(z: i32) -> usize
-    ensures { result ≡ nat_abs z }
-{
-    if z < 0 {
-        return (-(z as i64)) as usize;
-    }
-    z as usize
-}
-
 // An integer in decimal, with `-` where it is below 0.
+#[tactic(auto, using(crate::proofs::Writings::integers))]
 pub fn put_integer(out: &mut [u8], at: usize, z: i32) -> usize
     requires { at + length (integer_of z) ≤ length out.old }
     ensures value { result ≡ at + length (integer_of z) }
     ensures out_after { out.new ≡ placed at (integer_of z) out.old }
 {
-    let size = magnitude(z);
+    let size = z.unsigned_abs() as usize;
     if z < 0 {
         out[at] = b'-';
         return put_decimal(out, at + 1, size);
@@ -65,17 +56,15 @@ fn put_numbers(out: &mut [u8], at: usize, numbers: &[i32]) -> usize
     ensures out_after { out.new ≡ placed at (numbers_of numbers.now) out.old }
 {
     let mut end = at;
-    let mut i: usize = 0;
-    while i < numbers.len() {
-        let z = numbers[i];
+    for &z in numbers {
         out[end] = b',';
         end = put_integer(out, end + 1, z);
-        i += 1;
     }
     end
 }
 
 // A line: the word, then the numbers.
+#[tactic(auto, using(crate::proofs::Writings::lines))]
 pub fn put_line(out: &mut [u8], at: usize, word: &[u8], numbers: &[i32]) -> usize
     requires { at + length (line_of word.now numbers.now) ≤ length out.old }
     ensures value { result ≡ at + length (line_of word.now numbers.now) }

@@ -1,8 +1,5 @@
-use Rattle.std.proofs.Common.{◌-◌, ◌≤◌}
+use Rattle.std.proofs.Common.{◌≤◌}
 use Rattle.vectors.proofs.try_all.Given as goal
 
-abbrev pub invariant-loop-cases : goal.invariant-loop-cases
-invariant-loop-cases l = (l.wrong ≤ l.cases) × (l.cases ≤ 1000000)
-
-abbrev pub decreases-loop-cases : goal.decreases-loop-cases
-decreases-loop-cases l = 1000000 - l.cases
+abbrev pub invariant-loop : goal.invariant-loop
+invariant-loop l = (l.t.wrong ≤ l.counter) × (l.t.cases ≤ l.counter)

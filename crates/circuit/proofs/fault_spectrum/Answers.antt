@@ -1,0 +1,11 @@
+use Rattle.std.proofs.Common.{rules, arith, ◌≡◌, ◌∙◌, ◌^◌, ◌≤◌, List, ℤ, length, ap, sym, subst}
+use Rattle.integer.specs.Tab.{Within}
+use Rattle.circuit.proofs.CircuitLaws.{rows_fit, spectrum-room}
+use Rattle.circuit.proofs.fault_spectrum.Goals as goal
+
+pub returns-clause-value : goal.returns-clause-value
+returns-clause-value c =
+    let w = c.inputs-due.ensures.proper in
+    c.spectrum.ensures.value
+    ∙ spectrum-room _ c.args.d.now.inputs (length c.args.out.now) w.inputs-low w.inputs-high (ap length c.rows.ensures ∙ w.rows_all c.args.fault c.requires)
+    (subst (Within 1000) (sym c.rows.ensures) (rows_fit c.args.d.now w c.args.fault c.requires))

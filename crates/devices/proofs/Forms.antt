@@ -1,0 +1,51 @@
+-- A device by its form: what a circuit or a table gives as its problem.
+use Rattle.std.proofs.Common.{◌≡◌, ◌∙◌, ℕ, ◌≤◌, sym, ap, length}
+use Rattle.netlist.specs.Circuits.{Netlist, fault_at}
+use Rattle.simulation.specs.Rows.{rows_of}
+use Rattle.tables.specs.Tables.{TruthTable, table_fault_at}
+use Rattle.lookup.specs.TableRows.{table_rows}
+use Rattle.devices.specs.Devices.{circuit_problem, table_problem}
+use Rattle.devices.specs.Forms.{form_problem}
+use Rattle.devices.specs.Problems.{Problem, problem_from, rows_at}
+use Rattle.devices.specs.declared.device.Form.{Form}
+use Rattle.devices.specs.declared.device.Form.TheVariants.{Gates, Marks}
+use Rattle.devices.proofs.ProblemRows.{fault-count, circuit-rows, table-rows}
+
+module _ (form : Form) (p : Problem) (view : form_problem form ≡ p) where
+  module _ (n : Netlist) (is : form ≡ Gates n) where
+    pub is_circuit_problem : circuit_problem n ≡ p
+    is_circuit_problem = ap form_problem (sym is) ∙ view
+
+    pub circuit-inputs : n.inputs ≡ p.inputs
+    unfolding circuit_problem problem_from
+    circuit-inputs = ap (λ (q : Problem). q.inputs) is_circuit_problem
+
+    pub circuit-cap : n.cap ≡ p.cap
+    unfolding circuit_problem problem_from
+    circuit-cap = ap (λ (q : Problem). q.cap) is_circuit_problem
+
+    pub circuit-faults : length n.faults ≡ length p.faulted
+    unfolding circuit_problem
+    circuit-faults = sym (fault-count n.inputs (rows_of n) n.faults n.cap) ∙ ap (λ (q : Problem). length q.faulted) is_circuit_problem
+
+    pub circuit-rows-at : (k : ℕ) → k ≤ length n.faults → rows_of n (fault_at n k) ≡ rows_at p k
+    circuit-rows-at k h = sym (circuit-rows n k h) ∙ ap (λ (q : Problem). rows_at q k) is_circuit_problem
+
+  module _ (t : TruthTable) (is : form ≡ Marks t) where
+    pub is_table_problem : table_problem t ≡ p
+    is_table_problem = ap form_problem (sym is) ∙ view
+
+    pub table-inputs : t.inputs ≡ p.inputs
+    unfolding table_problem problem_from
+    table-inputs = ap (λ (q : Problem). q.inputs) is_table_problem
+
+    pub table-cap : t.cap ≡ p.cap
+    unfolding table_problem problem_from
+    table-cap = ap (λ (q : Problem). q.cap) is_table_problem
+
+    pub table-faults : length t.faults ≡ length p.faulted
+    unfolding table_problem
+    table-faults = sym (fault-count t.inputs (table_rows t) t.faults t.cap) ∙ ap (λ (q : Problem). length q.faulted) is_table_problem
+
+    pub table-rows-at : (k : ℕ) → k ≤ length t.faults → table_rows t (table_fault_at t k) ≡ rows_at p k
+    table-rows-at k h = sym (table-rows t k h) ∙ ap (λ (q : Problem). rows_at q k) is_table_problem

@@ -1,0 +1,94 @@
+// A device: a circuit or a table. In contracts it is its problem, whichever text it came from.
+ghost use Rattle.std.specs.Prelude.{◌≡◌, ◌^◌, ◌≤◌, length};
+ghost use Rattle.devices.specs.Problems.{rows_at, Proper};
+
+use netlist::Circuit;
+use std::marker::Model;
+use tables::Table;
+
+#[derive(Drop)]
+enum Form {
+    Gates(Circuit),
+    Marks(Table),
+}
+
+#[derive(Drop)]
+pub struct Device {
+    form: Form,
+}
+
+impl Model for Device {
+    ghost use Rattle.devices.specs.Problems.{Problem};
+
+    ghost Value = { Problem };
+
+    ghost use Rattle.devices.specs.Forms.{form_problem};
+
+    ghost view = { λ d. form_problem d.form };
+}
+
+impl From<Circuit> for Device {
+    ghost use Rattle.devices.specs.Devices.{circuit_problem};
+
+    ghost from_gives = { λ n p. p ≡ circuit_problem n };
+
+    fn from(circuit: Circuit) -> Self {
+        Device {
+            form: Form::Gates(circuit),
+        }
+    }
+}
+
+impl From<Table> for Device {
+    ghost use Rattle.devices.specs.Devices.{table_problem};
+
+    ghost from_gives = { λ t p. p ≡ table_problem t };
+
+    fn from(table: Table) -> Self {
+        Device {
+            form: Form::Marks(table),
+        }
+    }
+}
+
+impl Device {
+    pub fn inputs(&self) -> usize
+        ensures value { result ≡ self.now.inputs }
+        ensures proper { Proper self.now }
+    {
+        match &self.form {
+            Form::Gates(circuit) => circuit.inputs(),
+            Form::Marks(table) => table.inputs(),
+        }
+    }
+
+    /// How many faults there are.
+    pub fn faults(&self) -> usize
+        ensures { result ≡ length self.now.faulted }
+    {
+        match &self.form {
+            Form::Gates(circuit) => circuit.faults().len(),
+            Form::Marks(table) => table.faults().len(),
+        }
+    }
+
+    pub fn cap(&self) -> usize
+        ensures { result ≡ self.now.cap }
+    {
+        match &self.form {
+            Form::Gates(circuit) => circuit.cap(),
+            Form::Marks(table) => table.cap(),
+        }
+    }
+
+    /// The rows under fault `fault`, from 1, or sound for 0.
+    pub fn rows(&self, fault: usize, out: &mut [i32])
+        requires { (fault ≤ length self.now.faulted) × (length out.old ≡ 2 ^ self.now.inputs) }
+        ensures { out.new ≡ rows_at self.now fault }
+    {
+        match &self.form {
+            Form::Gates(circuit) => simulation::rows(circuit, circuit.fault(fault), out),
+            Form::Marks(table) => lookup::rows(table, table.fault(fault), out),
+        }
+    }
+}

@@ -1,0 +1,6 @@
+-- No fault before f is silent, and the masks are those of the faults before it.
+use Rattle.planner.proofs.PlanLaws.{MarkedBelow}
+use Rattle.planner.proofs.plan_call.mark_faults.Given as goal
+
+abbrev pub invariant-loop-f : goal.invariant-loop-f
+invariant-loop-f l = MarkedBelow l.d l.f l.masks
