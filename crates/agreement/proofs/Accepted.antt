@@ -21,7 +21,7 @@ use Rattle.netlist.specs.WellFormed.{WellFormed, top_of}
 use Rattle.simulation.specs.Rows.{rows_of}
 use Rattle.statements.specs.Items.{no_bridge}
 use Rattle.statements.specs.declared.Bridge.{Bridge}
-use Rattle.statements.specs.declared.Fault.{Fault}
+use Rattle.statements.specs.Items.{Fault}
 use Rattle.devices.specs.Describing.{described, description_of}
 use Rattle.devices.specs.Devices.{circuit_problem}
 use Rattle.devices.specs.Problems.{Problem, problem_from, rows_at}

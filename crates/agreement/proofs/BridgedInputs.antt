@@ -23,7 +23,7 @@ use Rattle.simulation.specs.Rows.{input_shown, row_value, rows_of}
 use Rattle.simulation.proofs.RowBounds.{length-rows}
 use Rattle.simulation.proofs.Showing.{sound-keeps, unbridged-shown, BridgeShows, bridge-shows}
 use Rattle.statements.specs.Items.{no_bridge, sound}
-use Rattle.statements.specs.declared.Fault.{Fault}
+use Rattle.statements.specs.Items.{Fault}
 use Rattle.faults.specs.Faults.{bit_of, both_of, bridged_row, bridged_rows}
 use Rattle.faults.proofs.BridgedRows.{bridged-shows-first, bridged-shows-second, bridged-keeps, bridged-below}
 use Rattle.faults.proofs.Digits.{digit-small}

@@ -11,7 +11,7 @@ use lib.IntN.{ℤ}
 use lib.ListN.{length}
 use Rattle.integer.proofs.Bounds.{within_more}
 use Rattle.sections.specs.FaultLines.{BridgeFault}
-use Rattle.statements.specs.declared.Fault.{Fault}
+use Rattle.statements.specs.Items.{Fault}
 use Rattle.screen.specs.Answers.{Done, and_then, inputs_of}
 use Rattle.screen.proofs.Screens.{inputs-is, then-done}
 use Rattle.transform.specs.Spectrum.{spectrum_of}

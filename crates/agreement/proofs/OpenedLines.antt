@@ -26,7 +26,7 @@ use Rattle.columns.specs.Shown.{shown, applied_under}
 use Rattle.simulation.specs.Rows.{row_value, rows_of}
 use Rattle.simulation.proofs.RowBounds.{row_within}
 use Rattle.statements.specs.Items.{no_bridge}
-use Rattle.statements.specs.declared.Fault.{Fault}
+use Rattle.statements.specs.Items.{Fault}
 use Rattle.statements.specs.declared.Pair.{Pair}
 use Rattle.screen.specs.Answers.{Done, and_then, inputs_of}
 use Rattle.transform.specs.Spectrum.{spectrum_of}

@@ -10,7 +10,7 @@ use lib.Dec.{eqb}
 use borrow.Author.Tests.{ne_eqb, eqb-true}
 use Rattle.columns.specs.Shown.{stuck_or, shown}
 use Rattle.lookup.specs.StuckPairs.{with_pair, present_pairs, bit_for}
-use Rattle.statements.specs.declared.Fault.{Fault}
+use Rattle.statements.specs.Items.{Fault}
 use Rattle.statements.specs.declared.Pair.{Pair}
 
 pub bit-back : (v : Bool) → eqb (bit_for v) 1 ≡ v

@@ -12,8 +12,8 @@ use Rattle.netlist.specs.Circuits.{Netlist}
 use Rattle.columns.specs.Shown.{shown}
 use Rattle.simulation.specs.Rows.{input_shown, input_values, gate_next, gates_next, line_values, output_term, row_value, gate_in}
 use Rattle.simulation.proofs.LineValues.{length-inputs, length-next}
-use Rattle.statements.specs.declared.Fault.{Fault}
-use Rattle.gate_lines.specs.declared.Gate.{Gate}
+use Rattle.statements.specs.Items.{Fault}
+use Rattle.gate_lines.specs.GateItems.{Gate}
 
 -- the faults treat the lines above the inputs alike
 module _ (n : Netlist) (f g : Fault) (above : (line : ℕ) (v : Bool) → n.inputs < line → shown f line v ≡ shown g line v) where

@@ -26,7 +26,7 @@ use Rattle.simulation.specs.Rows.{input_shown, row_value, rows_of}
 use Rattle.simulation.proofs.RowBounds.{length-rows}
 use Rattle.simulation.proofs.Showing.{others_keep, sound-keeps, unbridged-shown}
 use Rattle.statements.specs.Items.{no_bridge, sound}
-use Rattle.statements.specs.declared.Fault.{Fault}
+use Rattle.statements.specs.Items.{Fault}
 use Rattle.statements.specs.declared.Pair.{Pair}
 use Rattle.faults.specs.Faults.{Stuck, stuck_of, replaced, replaced_all, stuck_row, stuck_rows, stuck_answer, stuck_spectrum_of}
 use Rattle.faults.proofs.Faulted.{replaced-shows, replaced-keeps}

@@ -10,7 +10,7 @@ use lib.Dec.{lit≤}
 use lib.ListN.{length}
 use Rattle.integer.proofs.Bounds.{within_more}
 use Rattle.sections.specs.FaultLines.{StuckFault}
-use Rattle.statements.specs.declared.Fault.{Fault}
+use Rattle.statements.specs.Items.{Fault}
 use Rattle.screen.specs.Answers.{Done, inputs_of}
 use Rattle.screen.proofs.Screens.{inputs-is}
 use Rattle.transform.specs.Spectrum.{spectrum_of}

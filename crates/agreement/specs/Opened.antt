@@ -5,7 +5,7 @@ use Rattle.integer.specs.Tab.{tab}
 use Rattle.netlist.specs.Circuits.{Netlist}
 use Rattle.columns.specs.Shown.{applied}
 use Rattle.simulation.specs.Rows.{row_value}
-use Rattle.statements.specs.declared.Fault.{Fault}
+use Rattle.statements.specs.Items.{Fault}
 use Rattle.statements.specs.declared.Pair.{Pair}
 use Rattle.lookup.specs.StuckPairs.{stuck_values}
 

@@ -1,7 +1,7 @@
 // The spectrum under a bridge of two inputs, from coefficients alone. As in `faults` the call has no `requires` and refuses what it cannot take.
 #![tactic(auto)]
 
-ghost use Rattle.std.specs.Prelude.{◌≡◌, ◌≤◌, ◌<◌, length, MatchOption};
+ghost use Rattle.std.specs.Prelude.{◌≡◌, ◌-◌, ◌^◌, ◌≤◌, ◌<◌, length, MatchOption};
 ghost use Rattle.integer.specs.Tab.{Within, nth};
 ghost use Rattle.results.specs.Results.{leaves, written};
 ghost use Rattle.screen.specs.Answers.{answer_of, inputs_of};
@@ -21,63 +21,75 @@ fn bridge_right(n: usize, first: u32, second: u32) -> bool
     (0 < first) & (first < second) & (second <= inputs)
 }
 
-// The coefficient with only the first input and the one with only the second, added up.
-fn pair_sum(coefficients: &[i32], first: u32, second: u32, label: usize) -> i32
-    requires bridge_arguments { BridgeArguments (inputs_of (length coefficients.now)) first second }
-    requires within { Within 2048000 coefficients.now }
-    requires label_in_bounds { label < length coefficients.now }
-    ensures { result ≡ pair_sum first second (nth coefficients.now) label }
-{
-    let i: usize = 1 << (first - 1);
-    let j: usize = 1 << (second - 1);
-    let base = label - ((label & i) + (label & j));
-    coefficients[base + i] + coefficients[base + j]
+// Coefficients and two of their inputs, the first below the second.
+#[derive(Clone, Copy)]
+struct BridgedInputs<'a> {
+    coefficients: &'a [i32],
+    first: u32,
+    second: u32,
+    ghost inputs: { BridgeArguments (inputs_of (length coefficients.now)) first second },
+    ghost within: { Within 2048000 coefficients.now },
 }
 
-// The first label whose half is not whole.
-fn first_unhalved(coefficients: &[i32], first: u32, second: u32) -> Option<usize>
-    requires bridge_arguments { BridgeArguments (inputs_of (length coefficients.now)) first second }
-    requires within { Within 2048000 coefficients.now }
-    ensures { MatchOption result (length coefficients.now ≤ first_unhalved first second coefficients.now)
-        (λ label. (label ≡ first_unhalved first second coefficients.now) × (label < length coefficients.now)) }
-{
-    for label in 0..coefficients.len() {
-        if pair_sum(coefficients, first, second, label) % 2 != 0 {
-            return Some(label);
+impl BridgedInputs<'_> {
+    // What each of the inputs adds to a label that does not name it.
+    fn bits(&self) -> (usize, usize)
+        ensures { (result.0 ≡ 2 ^ (self.now.first - 1)) × (result.1 ≡ 2 ^ (self.now.second - 1)) }
+    {
+        (1 << (self.first - 1), 1 << (self.second - 1))
+    }
+
+    // The coefficient with only the first input and the one with only the second, added up.
+    #[tactic(auto, using(crate::proofs::BridgeSteps::places))]
+    fn pair_sum(&self, label: usize) -> i32
+        requires { label < length self.now.coefficients.now }
+        ensures { result ≡ pair_sum self.now.first self.now.second (nth self.now.coefficients.now) label }
+    {
+        let (i, j) = self.bits();
+        let base = label - ((label & i) + (label & j));
+        self.coefficients[base + i] + self.coefficients[base + j]
+    }
+
+    // The first label whose half is not whole. A loop: by `find` over the labels, which proves too, the call is slower, by 2.5 % of
+    // its instructions.
+    fn first_unhalved(&self) -> Option<usize>
+        ensures { MatchOption result (length self.now.coefficients.now ≤ first_unhalved self.now.first self.now.second self.now.coefficients.now)
+            (λ label. (label ≡ first_unhalved self.now.first self.now.second self.now.coefficients.now) × (label < length self.now.coefficients.now)) }
+    {
+        for label in 0..self.coefficients.len() {
+            if self.pair_sum(label) % 2 != 0 {
+                return Some(label);
+            }
         }
+        None
     }
-    None
-}
 
-// The coefficient under the bridge.
-fn bridged_at(coefficients: &[i32], first: u32, second: u32, label: usize) -> i32
-    requires bridge_arguments { BridgeArguments (inputs_of (length coefficients.now)) first second }
-    requires within { Within 2048000 coefficients.now }
-    requires label_in_bounds { label < length coefficients.now }
-    ensures { result ≡ bridged_at first second (nth coefficients.now) label }
-{
-    let i: usize = 1 << (first - 1);
-    let j: usize = 1 << (second - 1);
-    let has = (label & i) + (label & j);
-    let half = pair_sum(coefficients, first, second, label) / 2;
-    if has == 0 {
-        return coefficients[label] + half + coefficients[label + i + j];
+    // The coefficient under the bridge.
+    #[tactic(auto, using(crate::proofs::BridgeSteps::places))]
+    fn bridged_at(&self, label: usize) -> i32
+        requires { label < length self.now.coefficients.now }
+        ensures { result ≡ bridged_at self.now.first self.now.second (nth self.now.coefficients.now) label }
+    {
+        let (i, j) = self.bits();
+        let has = (label & i) + (label & j);
+        let half = self.pair_sum(label) / 2;
+        if has == 0 {
+            return self.coefficients[label] + half + self.coefficients[label + i + j];
+        }
+        if has == i + j {
+            return 0 - half;
+        }
+        half
     }
-    if has == i + j {
-        return 0 - half;
-    }
-    half
-}
 
-// Writes the coefficients under the bridge to the front of `out`.
-fn bridge(coefficients: &[i32], first: u32, second: u32, out: &mut [i32])
-    requires bridge_arguments { BridgeArguments (inputs_of (length coefficients.now)) first second }
-    requires within { Within 2048000 coefficients.now }
-    requires coefficients_in_bounds { length coefficients.now ≤ length out.old }
-    ensures { out.new ≡ written (bridged_spectrum_of first second coefficients.now) out.old }
-{
-    for label in 0..coefficients.len() {
-        out[label] = bridged_at(coefficients, first, second, label);
+    // Writes the coefficients under the bridge to the front of `out`.
+    fn bridge(&self, out: &mut [i32])
+        requires { length self.now.coefficients.now ≤ length out.old }
+        ensures { out.new ≡ written (bridged_spectrum_of self.now.first self.now.second self.now.coefficients.now) out.old }
+    {
+        for label in 0..self.coefficients.len() {
+            out[label] = self.bridged_at(label);
+        }
     }
 }
 
@@ -95,9 +107,14 @@ pub fn bridged(
     let n = coefficients.len();
     let right = bridge_right(n, first, second);
     screen::screen(coefficients, -2048000, 2048000, right, out.len(), n)?;
-    if let Some(index) = first_unhalved(coefficients, first, second) {
+    let inputs = BridgedInputs {
+        coefficients,
+        first,
+        second,
+    };
+    if let Some(index) = inputs.first_unhalved() {
         return Err(Refusal::Indivisible { index });
     }
-    bridge(coefficients, first, second, out);
+    inputs.bridge(out);
     Ok(())
 }

@@ -3,15 +3,21 @@ ghost use Rattle.std.specs.Prelude.{◌≤◌, ◌<◌, IfSome};
 
 use crate::numbers;
 
+// The calls that write a list into a lent result.
 #[derive(Clone, Copy)]
-pub enum Call {
-    Coefficient,
+pub enum ListCall {
     Spectrum,
     Rows,
     Stuck,
     Opened,
     Bridged,
     Circuit,
+}
+
+#[derive(Clone, Copy)]
+pub enum Call {
+    Coefficient,
+    List(ListCall),
     Plan,
     Report,
     Reading,
@@ -19,7 +25,7 @@ pub enum Call {
     Field,
 }
 
-// The call, if it has one's word, and how much there is of everything: bytes of the text, numbers of the list, first and second arguments, lent
+// The call, if the word is that of one, and how much there is of everything: bytes of the text, numbers of the list, first and second arguments, lent
 // numbers or bytes, lent working numbers, bytes of what is due.
 #[derive(Clone, Copy)]
 pub struct CaseHead {
@@ -36,12 +42,12 @@ pub struct CaseHead {
 fn call_of(word: &[u8]) -> Option<Call> {
     match word {
         b"coefficient" => Some(Call::Coefficient),
-        b"spectrum   " => Some(Call::Spectrum),
-        b"rows       " => Some(Call::Rows),
-        b"stuck      " => Some(Call::Stuck),
-        b"opened     " => Some(Call::Opened),
-        b"bridged    " => Some(Call::Bridged),
-        b"circuit    " => Some(Call::Circuit),
+        b"spectrum   " => Some(Call::List(ListCall::Spectrum)),
+        b"rows       " => Some(Call::List(ListCall::Rows)),
+        b"stuck      " => Some(Call::List(ListCall::Stuck)),
+        b"opened     " => Some(Call::List(ListCall::Opened)),
+        b"bridged    " => Some(Call::List(ListCall::Bridged)),
+        b"circuit    " => Some(Call::List(ListCall::Circuit)),
         b"plan       " => Some(Call::Plan),
         b"report     " => Some(Call::Report),
         b"reading    " => Some(Call::Reading),
@@ -64,7 +70,8 @@ fn size_at(head: &[u8; 54], k: usize) -> Option<usize>
     numbers::decimal(&head[12 + 6 * k..17 + 6 * k]).map(|n| n as usize)
 }
 
-// What a head says: none where a number is none; one that is not separated right names no call.
+// What a head says; nothing where a number is no number. A head that is not separated right names no call: so the rest of its case is still read, and the next
+// case found.
 pub fn read(head: &[u8; 54]) -> Option<CaseHead>
     ensures { IfSome result (λ h. (h.text < 10000000000) × (h.list < 10000000000) × (h.first < 10000000000) × (h.second < 10000000000) × (h.due < 10000000000)) }
 {
@@ -98,18 +105,18 @@ fn lends_nothing(h: CaseHead) -> bool {
     h.room == 0 && h.work == 0
 }
 
-// Whether the head has what its call takes and no more.
+// Whether the head has what its call takes and no more. A `match`: each call has a form of its own, and no form is taken apart or handed on.
 pub fn is_right(h: CaseHead) -> bool {
     let Some(call) = h.call else {
         return false;
     };
     match call {
         Call::Coefficient => is_on_a_list(h, 1, 0) && lends_nothing(h),
-        Call::Spectrum | Call::Rows => is_on_a_list(h, 0, 0),
-        Call::Stuck => is_on_a_list(h, h.first, h.second),
-        Call::Opened => is_on_a_list(h, h.first, 0),
-        Call::Bridged => is_on_a_list(h, 2, 0),
-        Call::Circuit => is_on_a_text(h, 0, 1, 0) && h.work == 0,
+        Call::List(ListCall::Spectrum | ListCall::Rows) => is_on_a_list(h, 0, 0),
+        Call::List(ListCall::Stuck) => is_on_a_list(h, h.first, h.second),
+        Call::List(ListCall::Opened) => is_on_a_list(h, h.first, 0),
+        Call::List(ListCall::Bridged) => is_on_a_list(h, 2, 0),
+        Call::List(ListCall::Circuit) => is_on_a_text(h, 0, 1, 0) && h.work == 0,
         Call::Plan => is_on_a_text(h, 0, 0, 0) && h.room == 0,
         Call::Report => is_on_a_text(h, 0, 0, 0),
         Call::Reading => is_on_a_text(h, 1, 2, 1) && lends_nothing(h),

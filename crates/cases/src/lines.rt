@@ -1,14 +1,13 @@
-// Answers as lines, to be compared byte for byte with what is due.
+// Answers as lines, to be compared byte for byte with what is due. They are written as `writing` does, from index `at` on, but with
+// room for the longest numbers: `put_line` asks for the length of its very text.
 ghost use Rattle.std.specs.Prelude.{◌+◌, ◌*◌, ◌≤◌, length};
 
-// A number of an answer, which is small; -1, which is never due, for any other.
-pub fn narrow(n: usize) -> i32 {
-    i32::try_from(n).unwrap_or(-1)
-}
-
-// The same of 32 bits.
-pub fn narrow_word(n: u32) -> i32 {
-    i32::try_from(n).unwrap_or(-1)
+// A number of an answer, which is small; -1, which is never due, for any other, so that a case with it differs and needs no error.
+pub fn narrow<N: TryInto<i32>>(n: N) -> i32
+where
+    N::Error: Drop,
+{
+    n.try_into().unwrap_or(-1)
 }
 
 // A comma and a number, which take at most 12 bytes, from `at` on; gives the index after them.
@@ -50,7 +49,7 @@ pub fn are_due(numbers: &[i32], due: &[u8]) -> bool
     text::same(&lines[..end], due)
 }
 
-// Whether it is with a line of a lent result after it.
+// The same of an answer with the line of a lent result after it.
 pub fn are_due_with(numbers: &[i32; 2], left: &[i32], due: &[u8]) -> bool {
     if 2056 < left.len() {
         return false;

@@ -1,7 +1,7 @@
 // Numbers of a fixed width, as the cases give sizes, arguments and lists.
 ghost use Rattle.std.specs.Prelude.{◌<◌, IfSome};
 
-// The number of at most ten digits; none where a byte is no digit or there are more.
+// The number of at most ten digits; none where a byte is no digit or there are more. (`text::decimal` is another rule: four digits, and no 0 before them.)
 pub fn decimal(digits: &[u8]) -> Option<u64>
     ensures { IfSome result (λ n. n < 10000000000) }
 {
@@ -47,7 +47,7 @@ where
     true
 }
 
-// Argument i, from 0; 0 where it is not there.
+// Argument i, from 0; 0 where it is not there: the head of a case is tested for how many its call takes.
 pub fn argument(arguments: &[u32], i: usize) -> u32 {
     arguments.get(i).copied().unwrap_or(0)
 }

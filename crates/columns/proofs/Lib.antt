@@ -1,2 +1,3 @@
 pub mod AppliedInputs
 pub mod Making
+pub mod FreePairs

@@ -1,7 +1,7 @@
 -- What a line shows under a fault, and what is applied to an input, alone and under a bridge (document 01, "Rows"; document 02, note 8).
 use Rattle.std.specs.Prelude.{ℕ, ◌+◌, ◌-◌, ◌/◌, ◌%◌, ◌^◌, Bool, cond, ◌&&◌, ◌||◌, eqb}
 use Rattle.statements.specs.declared.Bridge.{Bridge}
-use Rattle.statements.specs.declared.Fault.{Fault}
+use Rattle.statements.specs.Items.{Fault}
 use Rattle.statements.specs.declared.Pair.{Pair}
 
 -- "each stuck line shows its VALUE to all readers and to the outputs, whatever was applied or computed; all pairs of a fault hold together"

@@ -1,7 +1,7 @@
 -- The order, and the labels below n:
 --   order-rule        each label below 256 once, by number of ones and then by value: one computed test
 --   order-start       its first twelve labels are those that document 01 lists
---   order-length, order-rising, order_below, order-distinct    what it says, for proofs
+--   order-length, order-rising, order-distinct    what it says, for proofs
 --   labels-count      there are 2 ^ k labels below 2 ^ k
 --   labels-all, labels-low, labels-below    they are the numbers below n
 --   labels-distinct   each stands once
@@ -73,10 +73,6 @@ labels-low n l m = ltb-true l n (mem-keep (below n) order l m).1
 
 pub labels-below : (n : ℕ) → Below n (labels_below n)
 labels-below n i h = labels-low n (get_or (labels_below n) i 0) (at_mem (labels_below n) i h)
-
-pub order_below : Below 256 order
-unfolding labels_below below order by_ones with_ones keep count ones
-order_below = labels-below 256
 
 pub labels-distinct : (n : ℕ) → distinct (labels_below n) ≡ true
 unfolding labels_below

@@ -94,7 +94,7 @@ module _ (coefficients : List ℤ) (labels : List ℕ) (bit : ℕ) (masks : List
   added-to i = tab i (bit_added_at coefficients labels bit masks) ++ drop i masks
 
   module _ (now : List ℕ) (i : ℕ) (h : i < length masks) (so_far : now ≡ added-to i) where
-    pub read-mask : get_or now i 0 ≡ get_or masks i 0
+    read-mask : get_or now i 0 ≡ get_or masks i 0
     read-mask = ap (λ (l : List ℕ). get_or l i 0) so_far ∙ tab-ahead masks (bit_added_at coefficients labels bit masks) 0 i i (omega arith)
 
     step : (m : ℕ) → m ≡ bit_added_at coefficients labels bit masks i → set now i m ≡ added-to (i + 1)

@@ -13,7 +13,8 @@ pub fn clear(masks: &mut [u32])
 }
 
 // The differences of the rows, and whether all are 0.
-fn differ(sound: &[i32], faulted: &[i32], out: &mut [i64]) -> bool
+#[tactic(auto, using(integer::proofs::Tabs::filled), unfolding(integer::specs::Tab::tab, integer::specs::Counting::all_below, crate::specs::Cover::silent, crate::specs::Steps::differences))]
+fn differences(sound: &[i32], faulted: &[i32], out: &mut [i64]) -> bool
     requires { (length faulted.now ≡ length sound.now) × (length out.old ≡ length sound.now) × Within 1000 sound.now × Within 1000 faulted.now }
     ensures value { result ≡ silent sound.now faulted.now }
     ensures out_after { out.new ≡ differences sound.now faulted.now }
@@ -28,6 +29,7 @@ fn differ(sound: &[i32], faulted: &[i32], out: &mut [i64]) -> bool
 }
 
 // Adds `bit` to the mask of each label at which the coefficient is not 0.
+#[tactic(auto, using(integer::proofs::Tabs::filled), unfolding(integer::specs::Tab::tab, crate::specs::Steps::bit_added))]
 fn add_marks(coefficients: &[i64], labels: &[u32], bit: u32, masks: &mut [u32])
     requires labels_len { (length labels.now ≡ length masks.old) × Below (length coefficients.now) labels.now }
     requires below { Below bit masks.old × (bit ≤ 2 ^ 31) }
@@ -60,7 +62,8 @@ pub fn mark(
     let n = sound.len();
     let mut work = [0i64; 256];
     let work = &mut work[..n];
-    if differ(sound, faulted, work) {
+    let silent = differences(sound, faulted, work);
+    if silent {
         return true;
     }
     transform::transform(work, inputs);

@@ -19,11 +19,13 @@ pub const ORDER: [u32; 256] = [
     223, 239, 247, 251, 253, 254, 255,
 ];
 
-// The labels below n, in the order, at the front of the result.
+// The labels below n, in the order, at the front of the result: there is no heap for a list of so many.
+#[tactic(auto, unfolding(integer::specs::ListTests::keep))]
 pub fn labels_below(n: usize) -> [u32; 256]
     ensures { take (length (labels_below n)) result ≡ labels_below n }
 {
     let mut labels = [0u32; 256];
+    // How many are listed. `filter` and `enumerate` in its place read no plainer, and leave goals about what two iterators yielded.
     let mut count: usize = 0;
     for label in ORDER {
         if (label as usize) < n {

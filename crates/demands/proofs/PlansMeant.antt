@@ -14,7 +14,7 @@ use Rattle.netlist.specs.Circuits.{Netlist, fault_at}
 use Rattle.netlist.specs.Parsing.{accepted, parse_of}
 use Rattle.simulation.specs.Rows.{row_value, rows_of}
 use Rattle.statements.specs.Items.{sound}
-use Rattle.statements.specs.declared.Fault.{Fault}
+use Rattle.statements.specs.Items.{Fault}
 use Rattle.tables.specs.Tables.{TruthTable, table_fault_at}
 use Rattle.tables.specs.TableParsing.{accepted_table, table_of}
 use Rattle.lookup.specs.TableRows.{table_row, table_rows}

@@ -2,13 +2,12 @@
 --   described-proper    the problem of an accepted text is proper
 --   refusal-small, refusal-some    a refusal's number and place are small, and its number is not 0
 --   table-text, circuit-text    by the word of the first line; so a text whose first word is not `table` is what document 01 makes of it
-use mathlib.Core.Path.{◌≡◌, refl, sym, ◌∙◌, subst}
+use mathlib.Core.Path.{◌≡◌, refl, subst}
 use mathlib.Core.Bool.{Bool, true, false, cond}
 use mathlib.Core.List.{List}
 use mathlib.Core.Logic.{◌⊎◌, inl, inr, ⊎_elim}
 use Prim.Native.Nat.{ℕ, ◌<◌, ◌≤◌}
 use native.Mathlib.Omega.{arith}
-use borrow.Author.Tests.{eq-eqb, ne_eqb}
 use Rattle.netlist.specs.Parsing.{Parse, accepted, rejected, parse_of}
 use Rattle.netlist.proofs.Acceptance.{well-formed}
 use Rattle.netlist.proofs.Refusals.{text-refused}

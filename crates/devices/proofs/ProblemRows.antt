@@ -19,7 +19,7 @@ use Rattle.simulation.specs.Rows.{rows_of}
 use Rattle.simulation.proofs.RowBounds.{length-rows, rows-bounded}
 use Rattle.sections.specs.FaultLines.{fault_numbered}
 use Rattle.statements.specs.Items.{sound}
-use Rattle.statements.specs.declared.Fault.{Fault}
+use Rattle.statements.specs.Items.{Fault}
 use Rattle.tables.specs.Tables.{TruthTable, table_fault_at}
 use Rattle.tables.specs.TableWellFormed.{TableRight}
 use Rattle.lookup.specs.TableRows.{table_rows}

@@ -3,7 +3,7 @@
 use Rattle.std.specs.Prelude.{ℕ, zero, suc, ◌≤◌, ◌^◌, List, [], map, ◌≡◌, ℤ, length, get_or}
 use Rattle.integer.specs.Tab.{Within}
 use Rattle.statements.specs.Items.{sound}
-use Rattle.statements.specs.declared.Fault.{Fault}
+use Rattle.statements.specs.Items.{Fault}
 
 pub record Problem : Type 0 where
   pub inputs : ℕ

@@ -12,6 +12,7 @@ enum Form {
     Marks(Table),
 }
 
+// A struct around the enum, since no enum has a model.
 #[derive(Drop)]
 pub struct Device {
     form: Form,
@@ -27,6 +28,7 @@ impl Model for Device {
     ghost view = { λ d. form_problem d.form };
 }
 
+// One `From` a form: each wraps another variant, and the language has no derive for it.
 impl From<Circuit> for Device {
     ghost use Rattle.devices.specs.Devices.{circuit_problem};
 
@@ -51,6 +53,7 @@ impl From<Table> for Device {
     }
 }
 
+// Each method asks which form it is. A trait over both would say these four promises a second time, and its two impls a third.
 impl Device {
     pub fn inputs(&self) -> usize
         ensures value { result ≡ self.now.inputs }
@@ -81,7 +84,7 @@ impl Device {
         }
     }
 
-    /// The rows under fault `fault`, from 1, or sound for 0.
+    /// The rows under fault `fault`, from 1, or sound for 0, as document 01 numbers faults.
     pub fn rows(&self, fault: usize, out: &mut [i32])
         requires { (fault ≤ length self.now.faulted) × (length out.old ≡ 2 ^ self.now.inputs) }
         ensures { out.new ≡ rows_at self.now fault }

@@ -1,13 +1,15 @@
 -- How many lines a right gate reads, and which kind it then is:
 --   reads-one .. reads-four    by which of B, C and D is the first that is not there
+--   lines-there                the same, of a gate in the code
 --   reads-below                they are below its own line
 --   map_below                  rules that agree below a number give the same of numbers below it
 --   alone-not                  with no B it is a `not`
---   column-told, column-as     a column made for the kind that was told, and for the lines that are read
-use mathlib.Core.Path.{◌≡◌, refl, ap, ap₂, subst⁻¹}
+--   column-read, column-alone    a column made for the lines that are there is the gate's, and one made for A alone is that of a `not`
+use mathlib.Core.Path.{◌≡◌, refl, sym, ap, ap₂, ◌∙◌}
 use mathlib.Core.Bool.{Bool}
 use mathlib.Core.List.{List, [], ◌∷◌, map}
 use mathlib.Core.Logic.{◌⊎◌, inl, inr}
+use Rattle.std.specs.Prelude.{Option, Some, None}
 use Prim.Native.Nat.{ℕ, zero, suc, ◌<◌, ◌≤◌}
 use native.Mathlib.Omega.{arith}
 use Rattle.integer.specs.ListTests.{Below}
@@ -15,8 +17,9 @@ use Rattle.kinds.specs.declared.Kind.{Kind}
 use Rattle.kinds.specs.declared.Kind.TheVariants.{Not}
 use Rattle.columns.specs.Steps.{Columned}
 use Rattle.columns.specs.declared.Seen.{Seen}
-use Rattle.gate_lines.specs.GateItems.{up_to_none, lines_read, SecondRight, GateRight}
-use Rattle.gate_lines.specs.declared.Gate.{Gate}
+use Rattle.gate_lines.specs.GateItems.{Gate, up_to_none, lines_read, SecondRight, GateRight}
+use Rattle.gate_lines.specs.declared.Gate.TheInside.{Inside}
+use Rattle.gate_lines.specs.LinesThere.{line_or_none, IsLine}
 use Rattle.gate_lines.proofs.GatesWritten.{second-some, kept-below}
 use Rattle.evaluation.specs.GateRules.{gate_rule}
 
@@ -49,6 +52,20 @@ module _ (g : Gate) where
       unfolding up_to_none
       reads-four some = after_first (goes_on g.b (g.c ∷ g.d ∷ []) second (goes_on g.c (g.d ∷ []) third (goes_on g.d [] some refl)))
 
+-- of B, C and D in the code, those up to the first that is not there
+abbrev lines_to : Option ℕ → Option ℕ → Option ℕ → List ℕ
+lines_to None c d = []
+lines_to (Some b) None d = b ∷ []
+lines_to (Some b) (Some c) None = b ∷ c ∷ []
+lines_to (Some b) (Some c) (Some d) = b ∷ c ∷ d ∷ []
+
+lines-there : (kind : Kind) (a : ℕ) (b c d : Option ℕ) → IsLine b × IsLine c × IsLine d
+    → lines_read (record { kind = kind; a = a; b = line_or_none b; c = line_or_none c; d = line_or_none d }) ≡ a ∷ lines_to b c d
+lines-there kind a None c d are = reads-one _ refl
+lines-there kind a (Some b) None d are = reads_two _ are.0 refl
+lines-there kind a (Some b) (Some c) None are = reads_three _ are.0 are.1 refl
+lines-there kind a (Some b) (Some c) (Some d) are = reads-four _ are.0 are.1 are.2
+
 pub reads-below : (own : ℕ) (g : Gate) → GateRight own g → Below own (lines_read g)
 unfolding lines_read
 reads-below own g r zero k = r.first_below
@@ -71,9 +88,14 @@ alone-not kind b r none = go (second-some kind b r)
     go (inl is) = is
     go (inr other) = absurd (omega (arith, other.1))
 
-module _ (before after : List Bool) (s : Seen) (line n : ℕ) (lines : List ℕ) where
-  pub column-told : {kind told : Kind} → kind ≡ told → Columned before after line n (gate_rule before s told lines) → Columned before after line n (gate_rule before s kind lines)
-  column-told e = subst⁻¹ (λ (k : Kind). Columned before after line n (gate_rule before s k lines)) e
+-- of a gate, and its fields in the code
+module _ (before after : List Bool) (s : Seen) (line n : ℕ) {g : Gate} (i : Inside) (are : IsLine i.b × IsLine i.c × IsLine i.d)
+    (is : record { kind = i.kind; a = i.a; b = line_or_none i.b; c = line_or_none i.c; d = line_or_none i.d } ≡ g) where
+  pub column-read : Columned before after line n (gate_rule before s i.kind (i.a ∷ lines_to i.b i.c i.d)) → Columned before after line n (gate_rule before s g.kind (lines_read g))
+  column-read made = rw (← is, lines-there i.kind i.a i.b i.c i.d are) made
 
-  pub column-as : (kind : Kind) {read : List ℕ} → lines ≡ read → Columned before after line n (gate_rule before s kind read) → Columned before after line n (gate_rule before s kind lines)
-  column-as kind e = subst⁻¹ (λ (l : List ℕ). Columned before after line n (gate_rule before s kind l)) e
+  pub column-alone : SecondRight g.kind g.b → i.b ≡ None → Columned before after line n (gate_rule before s Not (i.a ∷ [])) → Columned before after line n (gate_rule before s g.kind (lines_read g))
+  column-alone second none made = column-read (rw (none, alone) made)
+    where
+      alone : i.kind ≡ Not
+      alone = ap (λ (h : Gate). h.kind) is ∙ alone-not g.kind g.b second (sym (ap (λ (h : Gate). h.b) is) ∙ ap line_or_none none)

@@ -11,9 +11,8 @@ use lib.IntN.{pos}
 use Rattle.writing.specs.Writing.{decimal_to, decimal_of, integer_of, gather, number_field, numbers_of, line_of}
 use Rattle.statements.specs.Items.{free, no_bridge}
 use Rattle.kinds.specs.Kinds.{kind_word}
-use Rattle.statements.specs.declared.Fault.{Fault}
-use Rattle.gate_lines.specs.GateItems.{up_to_none, line_fields}
-use Rattle.gate_lines.specs.declared.Gate.{Gate}
+use Rattle.statements.specs.Items.{Fault}
+use Rattle.gate_lines.specs.GateItems.{up_to_none, line_fields, Gate}
 use Rattle.kinds.specs.declared.Kind.{Kind}
 use Rattle.kinds.specs.declared.Kind.TheVariants.{And, Or, Not}
 use Rattle.statements.specs.declared.Output.{Output}

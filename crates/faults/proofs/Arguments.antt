@@ -1,30 +1,28 @@
 -- The lines and values that a fault call is given:
---   signed-none, signed-some                            `signed` at 0, and at another number
---   binary-stop, -next, -end                            `binary`, one value after the other
---   rising-low, -high, -next, -end                      `rising_inputs`, one line after the other
---   rising-rises, binary-values, binary-bits            what the two mean
+--   binary_all                                          `binary` as the code tests it
+--   rising_turn, rising_end                             `rising_inputs`, one line after the other
+--   rising-parts, rising-rises, binary-values, binary-bits    what the two mean
 --   rising-cons, rising-suffix, length-stuck-of         one line more, and a part of the lines
---   few-is, few-none, few-many                          one to three
---   stuck-not-few, -uneven, -binary, -right-means       `stuck_right`, test by test, and what it means
---   opened-not-few, -too-many, -binary, -right-means    `opened_right` likewise
---   kept-is, kept-none, kept_above, kept-right, kept-most    `kept_of` is above 0 exactly for right arguments, and at most 10
+--   few-is                                              one to three
+--   stuck-binary, stuck_unsized, StuckRight, stuck-right-means    `stuck_right`, by its parts, of a list with no inputs, and what it means
+--   OpenedRight, opened-binary, opened-right-means      `opened_right` likewise
 --   lines-after, rising-after                           the lines after line n
+--   kept_few                                            fewer lines are kept than the list has inputs
 --   OpenedCall, opened-call                             what a call with right arguments knows
-use mathlib.Core.Path.{◌≡◌, refl, sym, ap, ◌∙◌, subst}
+use mathlib.Core.Path.{◌≡◌, refl, sym, ap, subst}
 use mathlib.Core.List.{List, [], ◌∷◌}
-use mathlib.Core.Bool.{Bool, true, false, cond, ◌&&◌}
+use mathlib.Core.Bool.{Bool, true, false, ◌&&◌}
 use Prim.Native.Nat.{ℕ, zero, suc, ◌+◌, ◌-◌, ◌^◌, ◌≤◌, ◌<◌}
 use native.Mathlib.Numerals.{add-one}
 use native.Mathlib.Omega.{arith}
 use lib.Dec.{eqb, leb, ltb}
-use lib.IntN.{ℤ, neg_ℤ}
+use lib.IntN.{ℤ}
 use lib.ListN.{length, get_or, take, drop, drop_of_length-le}
 use lib.Pow.{pow_mono}
 use lib.Seq.{drop-cons}
-use borrow.Author.Tests.{ltb-true, leb-true, eqb-true, lt-ltb, le-ltb, le-leb, lt-leb, eq-eqb, ne_eqb}
+use borrow.Author.Tests.{ltb-true, leb-true, eqb-true, lt-ltb, le-leb, lt-leb, eq-eqb}
 use Rattle.std.specs.List.{list_all}
 use Rattle.std.proofs.lemmas.Bool.Decides.{nat_tests}
-use Rattle.integer.specs.Sum.{signed}
 use Rattle.integer.proofs.Bools.{both}
 use Rattle.screen.specs.Answers.{inputs_of}
 use Rattle.screen.proofs.Screens.{inputs-most, inputs-power}
@@ -32,14 +30,6 @@ use Rattle.faults.specs.Faults.{kept_inputs, stuck_of, rising_inputs, binary, fe
 use Rattle.faults.specs.Steps.{Kept}
 use Rattle.faults.proofs.Sticking.{Rises, Values}
 use Rattle.faults.proofs.Opening.{Bits}
-
-pub signed-none : (p : ℕ) (z : ℤ) → p ≡ 0 → signed p z ≡ z
-signed-none zero z e = refl
-signed-none (suc p) z e = absurd (omega arith)
-
-pub signed-some : (p : ℕ) (z : ℤ) → (p ≡ 0 → ⊥) → signed p z ≡ neg_ℤ z
-signed-some zero z f = absurd (f refl)
-signed-some (suc p) z f = refl
 
 -- One value, one line after the other.
 
@@ -119,23 +109,7 @@ pub few-is : (k : ℕ) → 1 ≤ k → k ≤ 3 → few_of k ≡ true
 unfolding few_of
 few-is k h l = rw (lt-ltb 0 k h, le-leb k 3 l)
 
-pub few-none : (k : ℕ) → k < 1 → few_of k ≡ false
-unfolding few_of
-few-none k h = rw (le-ltb 0 k (omega arith))
-
-pub few-many : (k : ℕ) → 3 < k → few_of k ≡ false
-unfolding few_of
-few-many k h = rw (lt-ltb 0 k (omega arith), lt-leb k 3 h)
-
 module _ (n : ℕ) (inputs values : List ℕ) where
-  pub stuck-not-few : few_of (length inputs) ≡ false → stuck_right n inputs values ≡ false
-  unfolding stuck_right
-  stuck-not-few e = rw e
-
-  pub stuck-uneven : few_of (length inputs) ≡ true → (length values ≡ length inputs → ⊥) → stuck_right n inputs values ≡ false
-  unfolding stuck_right
-  stuck-uneven e f = rw (e, ne_eqb (length values) (length inputs) f)
-
   pub stuck-binary : few_of (length inputs) ≡ true → length values ≡ length inputs → stuck_right n inputs values ≡ (binary values && rising_inputs 0 n inputs)
   unfolding stuck_right
   stuck-binary e f = rw (e, eq-eqb (length values) (length inputs) f)
@@ -179,14 +153,6 @@ pub record OpenedRight (inputs : ℕ) (values : List ℕ) : Type 0 where
   pub bits : binary values ≡ true
 
 module _ (inputs : ℕ) (values : List ℕ) where
-  pub opened-not-few : few_of (length values) ≡ false → opened_right inputs values ≡ false
-  unfolding opened_right
-  opened-not-few e = rw e
-
-  pub opened-too-many : few_of (length values) ≡ true → inputs ≤ length values → opened_right inputs values ≡ false
-  unfolding opened_right
-  opened-too-many e h = rw (e, le-ltb (length values) inputs h)
-
   pub opened-binary : few_of (length values) ≡ true → length values < inputs → opened_right inputs values ≡ binary values
   unfolding opened_right
   opened-binary e h = rw (e, lt-ltb (length values) inputs h)

@@ -36,9 +36,10 @@ module _ (c : List ℤ) (values : List ℕ) (n : ℕ) (right : Kept (inputs_of (
       let power : 2 ^ length values ≤ 2 ^ 3 = pow_mono {j = 3} known.few in
       (omega (arith, divisor-is, pow_pos (length values)), omega (arith, divisor-is))
 
-  module _ (l : List ℤ) (left : l ≡ stuck_spectrum_of (stuck_of Lines values) c) where
+  -- l is what `stick_all` leaves of the list m of `widen`
+  module _ (l : List ℤ) {m : List ℤ} (left : l ≡ stuck_spectrum_of (stuck_of Lines values) m) (same : m ≡ c) where
     stuck_after : l ≡ stuck_spectrum_of (lines_after n values) c
-    stuck_after = left ∙ ap (λ lines. stuck_spectrum_of lines c) (lines-after n values known.few)
+    stuck_after = left ∙ ap₂ (λ lines a. stuck_spectrum_of lines a) (lines-after n values known.few) same
 
     pub inside : (1 * 2 ^ n) % 2 ^ 64 ≤ length l
     inside = let i = known.inside in omega (arith, opened-due-is, ap length stuck_after, length-stuck (lines_after n values) c)

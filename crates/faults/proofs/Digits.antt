@@ -7,8 +7,8 @@
 --   put-zero, and-bit    a number is what it is without a digit and that digit's part; the part is what AND with 2 ^ b gives
 --   add-below    where digit b is 0, adding 2 ^ b stays below 2 ^ k
 --   digit-beyond, digit-added    and changes no digit above b, and makes digit b 1
---   digit-small, digit-one    a digit is 0 or 1
-use mathlib.Core.Path.{◌≡◌, refl, sym, ap, ap₂, ◌∙◌, subst}
+--   digit-small               a digit is 0 or 1
+use mathlib.Core.Path.{◌≡◌, sym, ap, ap₂, ◌∙◌, subst}
 use mathlib.Core.Logic.{⊎_elim}
 use Prim.Native.Nat.{ℕ, zero, suc, ◌+◌, ◌*◌, ◌-◌, ◌/◌, ◌%◌, ◌^◌, ◌≤◌, ◌<◌}
 use native.Mathlib.Nat.{lt_of_not-le, div-eq_of_lt, mod-eq_of_lt, add-mul-div_right, add-mul-mod_self_right, mul_assoc, mul_comm, add_assoc, pow-suc, zero-mul, one-mul, add-mul, mod-lt, div-add-mod}
@@ -205,14 +205,6 @@ digit-added b y e = ap (λ (n : ℕ). n % 2) (one_more b y) ∙ odd (y / 2 ^ b) 
   where
     odd : (q : ℕ) → q % 2 ≡ 0 → (q + 1) % 2 ≡ 1
     odd q z = omega arith
-
-pub digit-one : (b x : ℕ) → (digit b x ≡ 0 → ⊥) → digit b x ≡ 1
-digit-one b x n = one (digit b x) (digit-small b x) n
-  where
-    one : (d : ℕ) → d < 2 → (d ≡ 0 → ⊥) → d ≡ 1
-    one zero h n = absurd (n refl)
-    one (suc zero) h n = refl
-    one (suc (suc d)) h n = absurd (omega arith)
 
 pub put-zero : (b x : ℕ) → put b 0 x + digit b x * 2 ^ b ≡ x
 put-zero b x = sums ∙ put_same b x

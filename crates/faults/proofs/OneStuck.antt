@@ -1,11 +1,10 @@
 -- One stuck input, as a loop that counts up writes it in place, and all of them, by a loop that counts down:
 --   stuck-to, stuck-start, stuck-end    the list when i numbers are new, at the start and at the end
---   length-stuck-to                     its length
 --   read-ahead, stick-turn              a turn reads numbers that are as they came, and writes one
 --   once-joined, once-named             the number that a turn writes
 --   partner-below                       the label that adds the input
 --   stuck-from, from-none               the list when the lines from i on are stuck, at the start
---   from-length, from-within            its length, and its bound
+--   from-within                         its bound
 --   from-line, from_step                one line more
 use mathlib.Core.Path.{◌≡◌, refl, sym, ap, ap₂, ◌∙◌, subst}
 use mathlib.Core.List.{List, ◌∷◌, ◌++◌, append-nil}
@@ -19,14 +18,14 @@ use borrow.Author.Tests.{eq-eqb, ne_eqb}
 use Rattle.integer.specs.Sum.{signed}
 use Rattle.integer.specs.Tab.{tab, nth, Within}
 use Rattle.integer.proofs.Machine.{bit_is}
-use Rattle.integer.proofs.Tabs.{tab-step, tab-ahead, length_part}
+use Rattle.integer.proofs.Tabs.{tab-step, tab-ahead}
 use Rattle.screen.specs.Answers.{inputs_of}
 use Rattle.screen.proofs.Screens.{inputs-most, inputs-power}
 use Rattle.faults.specs.Faults.{Stuck, bit_of, stuck_of, stuck_spectrum_of, rising_inputs}
 use Rattle.faults.specs.Steps.{stuck_once_at, stuck_once}
 use Rattle.faults.proofs.Arguments.{rising-rises, rising-suffix, length-stuck-of}
 use Rattle.faults.proofs.Digits.{add-below}
-use Rattle.faults.proofs.Sticking.{Rises, length-stuck, stuck-none, stuck-step, within-stuck}
+use Rattle.faults.proofs.Sticking.{Rises, stuck-none, stuck-step, within-stuck}
 
 pub partner-below : (input n i : ℕ) → 1 ≤ input → input ≤ inputs_of n → i < n → bit_of input i ≡ 0 → i + 2 ^ (input - 1) < n
 partner-below input n i first last h e =
@@ -50,9 +49,6 @@ module _ (input value : ℕ) (a : List ℤ) where
   stuck-end = ap (λ (l : List ℤ). tab (length a) (stuck_once_at input value a) ++ l) (drop-length a) ∙ append-nil (tab (length a) (stuck_once_at input value a))
 
   module _ (i : ℕ) where
-    pub length-stuck-to : (l : List ℤ) → l ≡ stuck-to i → i ≤ length a → length l ≡ length a
-    length-stuck-to l e h = ap length e ∙ length_part i (stuck_once_at input value a) a h
-
     pub read-ahead : (l : List ℤ) → l ≡ stuck-to i → (j : ℕ) → i ≤ j → nth l j ≡ nth a j
     read-ahead l e j h = ap (λ (k : List ℤ). nth k j) e ∙ tab-ahead a (stuck_once_at input value a) (pos 0) i j h
 
@@ -78,9 +74,6 @@ module _ (a : List ℤ) (lines values : List ℕ) where
   pub from-none : a ≡ stuck-from (length lines)
   unfolding stuck_of
   from-none = sym (ap (λ (l : List ℕ). stuck_spectrum_of (stuck_of l (drop (length lines) values)) a) (drop-length lines) ∙ stuck-none a)
-
-  pub from-length : (i : ℕ) → length (stuck-from i) ≡ length a
-  from-length i = length-stuck (stuck_of (drop i lines) (drop i values)) a
 
   pub from-within : (i : ℕ) → length lines ≤ 3 → Within 2048000 a → Within 16384000 (stuck-from i)
   from-within i few w =

@@ -22,7 +22,8 @@ fn joined(x: i64, y: i64, value: u32) -> i64
 }
 
 // One input stuck: each label that names it gets 0, every other its coefficient joined with the one that adds the input. Upwards in place:
-// the coefficients read at a label are those at it and above it, which are still as they came.
+// the coefficients read at a label are those at it and above it, which are still as they came. The index stays: by halves of chunks it would write
+// through a `zip`, of which a proof learns nothing.
 fn stick(a: &mut [i64], input: u32, value: u32)
     requires le_input { (1 ≤ input) × (input ≤ inputs_of (length a.old)) }
     requires within { Within 16384000 a.old }
@@ -39,7 +40,8 @@ fn stick(a: &mut [i64], input: u32, value: u32)
     }
 }
 
-// All the lines stuck, the last first.
+// All the lines stuck, the last first. Lines and values are two slices, as the C interface lends them. By index: of a `zip` under `rev` a proof does not
+// learn which pair comes next.
 fn stick_all(a: &mut [i64], lines: &[u32], values: &[u32])
     requires lines_len_bound { (length lines.now ≤ 3) × (length values.now ≡ length lines.now) }
     requires lines_value { rising_inputs 0 (inputs_of (length a.old)) lines.now ≡ true }
@@ -109,7 +111,7 @@ pub fn stuck(
     Ok(())
 }
 
-// The inputs that are kept where the last k of a list of n numbers are opened; or 9, 12 unless k is 1 to 3, an input is left and each value is 0 or 1.
+// How many inputs are kept where the last k of a list of n numbers are opened; or 9, 12 unless k is 1 to 3, an input is left and each value is 0 or 1.
 #[tactic(auto, using(crate::proofs::Arguments::opened_tests), unfolding(crate::specs::Faults::opened_right, crate::specs::Faults::few_of))]
 fn kept_inputs(n: usize, values: &[u32]) -> Result<u32, Refusal>
     ensures value { answer_of result ≡ kept_answer (inputs_of n) values.now }
@@ -124,6 +126,7 @@ fn kept_inputs(n: usize, values: &[u32]) -> Result<u32, Refusal>
     }
 }
 
+// The spectrum of `opened` after its tests, by way of working numbers that are lent.
 fn opened_by(
     coefficients: &[i32],
     values: &[u32],

@@ -4,7 +4,8 @@
 ghost use Rattle.std.specs.Prelude.{◌≡◌, ◌-◌, ◌≤◌};
 ghost use Rattle.fields.specs.Fields.{value_at, numbers_from, is_line, in_range};
 
-// The number in field k, 0 where there is none. At most 9,999.
+// The number in field k, at most 9,999; 0 where there is none. No Option, which would be no plainer: the definition is total, and callers ask first whether
+// the fields are numbers.
 #[tactic(auto, using(crate::proofs::LineTests::values), unfolding(crate::specs::Fields::value_at))]
 pub fn value_at(line: &[u8], k: usize) -> u16
     ensures { (result ≡ value_at line.now k) × (result ≤ 9999) }

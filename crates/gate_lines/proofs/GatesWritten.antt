@@ -28,9 +28,8 @@ use Rattle.kinds.specs.declared.Kind.{Kind}
 use Rattle.kinds.specs.declared.Kind.TheVariants.{And, Or, Nand, Nor, Xor, Xnor, Not}
 use Rattle.kinds.proofs.KindWords.{kind-written, other-kind}
 use Rattle.gate_lines.specs.GateForms.{gate_from, GateFields}
-use Rattle.gate_lines.specs.GateItems.{up_to_none, line_fields, SecondRight, GateRight}
+use Rattle.gate_lines.specs.GateItems.{Gate, up_to_none, line_fields, SecondRight, GateRight}
 use Rattle.gate_lines.specs.GateLines.{is_gate, second_fits, added_fits, gate_fits, gate_refusal, gate_of}
-use Rattle.gate_lines.specs.declared.Gate.{Gate}
 use Rattle.gate_lines.proofs.GateFormsMeant.{gate-form, gate-kind, gate-value, GateFormed, gate-formed}
 
 -- ---- the numbers before the first 0

@@ -4,7 +4,13 @@
 use Rattle.std.specs.Prelude.{ℕ, zero, suc, ◌<◌, ◌≤◌, List, [], ◌∷◌, ◌≡◌}
 use Rattle.kinds.specs.declared.Kind.{Kind}
 use Rattle.kinds.specs.declared.Kind.TheVariants.{And, Or, Nand, Nor, Xor, Xnor, Not}
-use Rattle.gate_lines.specs.declared.Gate.{Gate}
+
+pub record Gate : Type 0 where
+  pub kind : Kind
+  pub a : ℕ
+  pub b : ℕ
+  pub c : ℕ
+  pub d : ℕ
 
 -- what is read past the last gate
 abbrev pub no_gate : Gate

@@ -8,7 +8,7 @@ use Rattle.fields.specs.Fields.{fits, in_range, is_line, unless, value_at}
 use Rattle.kinds.specs.Kinds.{is_kind, kind_of}
 use Rattle.kinds.specs.declared.Kind.{Kind}
 use Rattle.kinds.specs.declared.Kind.TheVariants.{And, Or, Nand, Nor, Xor, Xnor, Not}
-use Rattle.gate_lines.specs.declared.Gate.{Gate}
+use Rattle.gate_lines.specs.GateItems.{Gate}
 
 abbrev pub gate_word : List ℕ
 gate_word = bytes_of "gate"

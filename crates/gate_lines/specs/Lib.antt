@@ -1,3 +1,4 @@
 pub mod GateItems
+pub mod LinesThere
 pub mod GateLines
 pub mod GateForms

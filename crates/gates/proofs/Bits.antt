@@ -1,4 +1,4 @@
--- Bits as a number behind a leading 1: `bit-appended`, one bit more after the others.
+-- Bits as a number behind a leading 1: `bit_appended`, one bit more after the others.
 use mathlib.Core.Path.{◌≡◌, sym, ap, ap₂, ◌∙◌}
 use mathlib.Core.Bool.{Bool, true, false, cond}
 use mathlib.Core.List.{List, [], ◌∷◌, ◌++◌}
@@ -23,6 +23,6 @@ module _ (n : ℕ) (some : 1 ≤ n) (few : n < 16) where
       rw (le-ltb m 2 (omega arith)) (ap₂ (λ (k : ℕ) (z : Bool). bits_to 3 k ++ (z ∷ [])) half last)
       ∙ ap (λ (l : List Bool). l ++ (b ∷ [])) (sym (bits-enough 3 n (omega arith)))
 
-  pub bit-appended : (b : Bool) (m : ℕ) → m ≡ cond b (2 * n + 1) (2 * n) → (bits_of m ≡ bits_of n ++ (b ∷ [])) × (n + n ≤ m) × (m ≤ n + n + 1)
-  bit-appended true m e = (more m true (omega arith) (ap (λ (k : ℕ). eqb k 1) (let r : m % 2 ≡ 1 = omega arith in r)), omega arith, omega arith)
-  bit-appended false m e = (more m false (omega arith) (ap (λ (k : ℕ). eqb k 1) (let r : m % 2 ≡ 0 = omega arith in r)), omega arith, omega arith)
+  pub bit_appended : (b : Bool) (m : ℕ) → m ≡ cond b (2 * n + 1) (2 * n) → (bits_of m ≡ bits_of n ++ (b ∷ [])) × (n + n ≤ m) × (m ≤ n + n + 1)
+  bit_appended true m e = (more m true (omega arith) (ap (λ (k : ℕ). eqb k 1) (let r : m % 2 ≡ 1 = omega arith in r)), omega arith, omega arith)
+  bit_appended false m e = (more m false (omega arith) (ap (λ (k : ℕ). eqb k 1) (let r : m % 2 ≡ 0 = omega arith in r)), omega arith, omega arith)

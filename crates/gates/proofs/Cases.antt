@@ -1,13 +1,24 @@
 -- A kind's `match`, a line for each case:
---   case-is    the case that is taken has the value of its bits
---   none_of    where the cases are all numbers there are, none is left for the last arm
-use mathlib.Core.Path.{◌≡◌, sym, ap}
+--   xor_true, xor_false    `xor` of a known bit, by which the cases of `xor` and `xnor` compute
+--   case-is, none_of       the case that is taken has the value of its bits, and none is left for the last arm: what the check finds by itself, said in words (docs/CHANGES.md)
+use mathlib.Core.Path.{◌≡◌, refl, sym, ap}
+use mathlib.Core.Bool.{Bool, true, false, not, xor}
 use Prim.Native.Nat.{ℕ, zero, suc, ◌+◌, ◌≤◌, ◌<◌}
 use native.Mathlib.Omega.{arith}
 use native.Mathlib.Decide.{dec_le}
 use native.Mathlib.Nat.{lt_of_not-le}
 use Rattle.kinds.specs.declared.Kind.{Kind}
 use Rattle.gates.specs.Gates.{gate_value, bits_of}
+
+pub xor_true : (b : Bool) → xor true b ≡ not b
+unfolding xor
+xor_true true = refl
+xor_true false = refl
+
+pub xor_false : (b : Bool) → xor false b ≡ b
+unfolding xor
+xor_false true = refl
+xor_false false = refl
 
 pub case-is : (kind : Kind) {bits n : ℕ} → bits ≡ n → gate_value kind (bits_of n) ≡ gate_value kind (bits_of bits)
 case-is kind e = ap (λ (n : ℕ). gate_value kind (bits_of n)) (sym e)

@@ -1,7 +1,8 @@
--- The rule as the code works it out, on the number of the bits:
+-- The rule as the code worked it out before it had the cases, on the number of the bits:
 --   by-formula    the kind's value, by one computed test over the numbers of its cases
 --   ones-added    the number of ones, added up, by another
 --   case-few      those numbers are below 32
+-- Nothing cites them since; docs/PORT.md names them.
 use mathlib.Core.Path.{◌≡◌, refl, sym, subst}
 use mathlib.Core.Bool.{Bool, true, false, not, xor, ◌||◌}
 use Prim.Native.Nat.{ℕ, ◌+◌, ◌/◌, ◌%◌, ◌≤◌, ◌<◌}

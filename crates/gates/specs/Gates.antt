@@ -40,10 +40,14 @@ bits_to (suc most) n = cond (ltb n 2) [] (bits_to most (n / 2) ++ (eqb (n % 2) 1
 unfoldable pub bits_of : ℕ → List Bool
 bits_of n = bits_to 4 n
 
+-- the numbers of two, three and four bits
+abbrev pub Several : ℕ → Type 0
+Several n = (4 ≤ n) × (n < 32)
+
 -- the numbers of a kind's cases: one bit for `not`, two, three or four for every other
 pub record CaseOf (kind : Kind) (n : ℕ) : Type 0 where
   pub one : kind ≡ Not → (2 ≤ n) × (n < 4)
-  pub more : (kind ≡ Not → ⊥) → (4 ≤ n) × (n < 32)
+  pub more : (kind ≡ Not → ⊥) → Several n
 
 -- document 01's rule, on two bits and on the one of `not`
 pub record TwoAsBefore : Type 0 where

@@ -1,10 +1,11 @@
 // The cases of `nor`: the complement of `or`.
-ghost use Rattle.std.specs.Prelude.{◌≡◌, ◌≤◌, ◌<◌};
+ghost use Rattle.std.specs.Prelude.{◌≡◌};
 ghost use Rattle.kinds.specs.declared.Kind.TheVariants.{Nor};
-ghost use Rattle.gates.specs.Gates.{gate_value, bits_of};
+ghost use Rattle.gates.specs.Gates.{gate_value, bits_of, Several};
 
+#[tactic(auto, unfolding(crate::specs::Gates::gate_value, crate::specs::Gates::some_of, crate::specs::Gates::bits_of, crate::specs::Gates::bits_to))]
 pub fn value(bits: u32) -> bool
-    requires { (4 ≤ bits) × (bits < 32) }
+    requires { Several bits }
     ensures { result ≡ gate_value Nor (bits_of bits) }
 {
     match bits {

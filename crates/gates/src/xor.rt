@@ -1,10 +1,11 @@
 // The cases of `xor`: 1 where an odd number of bits is 1.
-ghost use Rattle.std.specs.Prelude.{◌≡◌, ◌≤◌, ◌<◌};
+ghost use Rattle.std.specs.Prelude.{◌≡◌};
 ghost use Rattle.kinds.specs.declared.Kind.TheVariants.{Xor};
-ghost use Rattle.gates.specs.Gates.{gate_value, bits_of};
+ghost use Rattle.gates.specs.Gates.{gate_value, bits_of, Several};
 
+#[tactic(auto, using(crate::proofs::Cases::xor_true, crate::proofs::Cases::xor_false), unfolding(crate::specs::Gates::gate_value, crate::specs::Gates::odd_of, crate::specs::Gates::bits_of, crate::specs::Gates::bits_to))]
 pub fn value(bits: u32) -> bool
-    requires { (4 ≤ bits) × (bits < 32) }
+    requires { Several bits }
     ensures { result ≡ gate_value Xor (bits_of bits) }
 {
     match bits {

@@ -1,6 +1,7 @@
 -- The words of the kinds:
 --   kind-written    the word that a kind is written as is read as that kind
 --   kind-only       no other word is that of a kind
+--   unknown, counted_as_not    a word that is spelt like none of them is no kind's, and counts as `not`
 -- and which of them is `not`:
 --   is_not, other-kind    every kind but `not` is another one
 use mathlib.Core.Path.{◌≡◌, refl, sym, ap, ◌∙◌}
@@ -8,7 +9,7 @@ use mathlib.Core.Bool.{Bool, true, false, cond, ◌||◌, false≢true}
 use mathlib.Core.List.{List}
 use Prim.Native.Nat.{ℕ, ◌≤◌}
 use native.Mathlib.Omega.{arith}
-use lib.ListN.{length}
+use lib.ListN.{length, get_or}
 use Rattle.text.specs.Text.{comma, line_end, index_of, same_bytes}
 use Rattle.text.proofs.Words.{same-equal}
 use Rattle.writing.proofs.LineFields.{Lacks}
@@ -49,6 +50,28 @@ kind-only w e =
     go false false false false true g p q r s t u v e = t refl
     go false false false false false true p q r s t u v e = u refl
     go false false false false false false p q r s t u v e = v e
+
+-- by its length and by its bytes
+abbrev Unspelt : List ℕ → List ℕ → Type 0
+Unspelt w p = length w ≡ length p → get_or w 0 0 ≡ get_or p 0 0 → get_or w 1 0 ≡ get_or p 1 0 → get_or w 2 0 ≡ get_or p 2 0 → get_or w 3 0 ≡ get_or p 3 0 → ⊥
+
+unlike : (w p : List ℕ) → Unspelt w p → same_bytes w p ≡ false
+unlike w p h = go (same_bytes w p) refl
+  where
+    go : (b : Bool) → same_bytes w p ≡ b → same_bytes w p ≡ false
+    go true e =
+        let is = same-equal w p e in
+        absurd (h (ap length is) (ap (λ (l : List ℕ). get_or l 0 0) is) (ap (λ (l : List ℕ). get_or l 1 0) is) (ap (λ (l : List ℕ). get_or l 2 0) is) (ap (λ (l : List ℕ). get_or l 3 0) is))
+    go false e = e
+
+module _ (w : List ℕ) (p : Unspelt w and_word) (q : Unspelt w or_word) (r : Unspelt w nand_word) (s : Unspelt w nor_word) (t : Unspelt w xor_word) (u : Unspelt w xnor_word) (v : Unspelt w not_word) where
+  pub unknown : false ≡ is_kind w
+  unfolding is_kind
+  unknown = rw (unlike w and_word p, unlike w or_word q, unlike w nand_word r, unlike w nor_word s, unlike w xor_word t, unlike w xnor_word u, unlike w not_word v)
+
+  pub counted_as_not : Not ≡ kind_of w
+  unfolding kind_of
+  counted_as_not = rw (unlike w and_word p, unlike w or_word q, unlike w nand_word r, unlike w nor_word s, unlike w xor_word t, unlike w xnor_word u)
 
 abbrev pub is_not : Kind → Bool
 is_not And = false

@@ -18,26 +18,19 @@ pub enum Kind {
 }
 
 // The kind of that word. The definition `kind_of` counts a word of none as `not`.
-#[tactic(auto, unfolding(crate::specs::Kinds::is_kind, crate::specs::Kinds::kind_of))]
+#[tactic(auto, using(crate::proofs::KindWords::unknown, crate::proofs::KindWords::counted_as_not), unfolding(crate::specs::Kinds::is_kind, crate::specs::Kinds::kind_of, text::specs::Text::same_bytes))]
 pub fn kind_of(word: &[u8]) -> Option<Kind>
     ensures known { is_some result ≡ is_kind word.now }
     ensures value { unwrap_or result Not ≡ kind_of word.now }
 {
-    if text::same(word, b"and") {
-        Some(Kind::And)
-    } else if text::same(word, b"or") {
-        Some(Kind::Or)
-    } else if text::same(word, b"nand") {
-        Some(Kind::Nand)
-    } else if text::same(word, b"nor") {
-        Some(Kind::Nor)
-    } else if text::same(word, b"xor") {
-        Some(Kind::Xor)
-    } else if text::same(word, b"xnor") {
-        Some(Kind::Xnor)
-    } else if text::same(word, b"not") {
-        Some(Kind::Not)
-    } else {
-        None
+    match word {
+        b"and" => Some(Kind::And),
+        b"or" => Some(Kind::Or),
+        b"nand" => Some(Kind::Nand),
+        b"nor" => Some(Kind::Nor),
+        b"xor" => Some(Kind::Xor),
+        b"xnor" => Some(Kind::Xnor),
+        b"not" => Some(Kind::Not),
+        _ => None,
     }
 }

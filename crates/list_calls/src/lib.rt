@@ -1,73 +1,64 @@
 // Holds the calls that write a list into a lent result, and the call for one coefficient, to stored cases.
 #![tactic(auto)]
 
-use cases::heads::Call;
+use cases::heads::ListCall;
 use cases::lines;
 use cases::numbers::argument;
 use refusals::Refusal;
+use replies::{Reply, Sum};
 
 pub fn coefficient_holds(list: &[i32], label: u32, due: &[u8]) -> bool {
-    match walsh::coefficient(list, label) {
-        Ok(value) => lines::are_due(&[0, 0, value], due),
-        Err(r) => lines::are_due(
-            &[lines::narrow_word(r.number()), lines::narrow(r.place()), 0],
-            due,
-        ),
-    }
+    let sum = Sum::from(walsh::coefficient(list, label));
+    lines::are_due(
+        &[
+            lines::narrow(sum.number),
+            lines::narrow(sum.place),
+            sum.value,
+        ],
+        due,
+    )
 }
 
-fn numbers_of(a: Result<(), Refusal>) -> [i32; 2] {
-    match a {
-        Ok(()) => [0, 0],
-        Err(r) => [lines::narrow_word(r.number()), lines::narrow(r.place())],
-    }
+// A call with what it is given.
+#[derive(Clone, Copy)]
+pub struct Given<'a> {
+    pub call: ListCall,
+    pub text: &'a [u8],
+    pub list: &'a [i32],
+    pub first: &'a [u32],
+    pub second: &'a [u32],
 }
 
-fn answer(
-    call: Call,
-    text: &[u8],
-    list: &[i32],
-    first: &[u32],
-    second: &[u32],
-    out: &mut [i32],
-) -> Result<(), Refusal> {
-    match call {
-        Call::Spectrum => walsh::spectrum(list, out),
-        Call::Rows => walsh::rows(list, out),
-        Call::Stuck => faults::stuck(list, first, second, out),
-        Call::Opened => faults::opened(list, first, out),
-        Call::Bridged => bridges::bridged(list, argument(first, 0), argument(first, 1), out),
-        _ => circuit::circuit_spectrum(text, argument(first, 0), out),
+impl Given<'_> {
+    // Each call takes other arguments, so no table or closure is plainer than a match.
+    fn answer(&self, out: &mut [i32]) -> Result<(), Refusal> {
+        match self.call {
+            ListCall::Spectrum => walsh::spectrum(self.list, out),
+            ListCall::Rows => walsh::rows(self.list, out),
+            ListCall::Stuck => faults::stuck(self.list, self.first, self.second, out),
+            ListCall::Opened => faults::opened(self.list, self.first, out),
+            ListCall::Bridged => {
+                let first = argument(self.first, 0);
+                let second = argument(self.first, 1);
+                bridges::bridged(self.list, first, second, out)
+            }
+            ListCall::Circuit => circuit::circuit_spectrum(self.text, argument(self.first, 0), out),
+        }
     }
-}
 
-// The answer and the whole lent result.
-fn lent_by(
-    call: Call,
-    text: &[u8],
-    list: &[i32],
-    first: &[u32],
-    second: &[u32],
-    out: &mut [i32],
-    due: &[u8],
-) -> bool {
-    let numbers = numbers_of(answer(call, text, list, first, second, out));
-    lines::are_due_with(&numbers, out, due)
-}
-
-// The same with a lent result of its own, in which stands what no call writes.
-pub fn lent_holds(
-    call: Call,
-    text: &[u8],
-    list: &[i32],
-    first: &[u32],
-    second: &[u32],
-    room: usize,
-    due: &[u8],
-) -> bool {
-    if 2056 < room {
-        return false;
+    // The answer and the whole lent result.
+    fn leaves(&self, out: &mut [i32], due: &[u8]) -> bool {
+        let reply = Reply::from(self.answer(out));
+        let numbers = [lines::narrow(reply.number), lines::narrow(reply.place)];
+        lines::are_due_with(&numbers, out, due)
     }
-    let mut out = [-99999999i32; 2056];
-    lent_by(call, text, list, first, second, &mut out[..room], due)
+
+    // The same with a lent result of its own, in which stands what no call writes.
+    pub fn holds(&self, room: usize, due: &[u8]) -> bool {
+        if 2056 < room {
+            return false;
+        }
+        let mut out = [-99999999i32; 2056];
+        self.leaves(&mut out[..room], due)
+    }
 }

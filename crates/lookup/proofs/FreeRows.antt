@@ -18,7 +18,7 @@ use Rattle.integer.proofs.Entries.{keep_append}
 use Rattle.integer.proofs.Sums.{sum-ext}
 use Rattle.transform.specs.Spectrum.{sign, coefficient_of}
 use Rattle.transform.proofs.Parity.{of_parity, even-less-odd}
-use Rattle.statements.specs.declared.Fault.{Fault}
+use Rattle.statements.specs.Items.{Fault}
 use Rattle.tables.specs.Tables.{TruthTable}
 use Rattle.tables.specs.TableWellFormed.{TableRight}
 use Rattle.lookup.specs.TableRows.{fault_row, table_row, table_rows}

@@ -1,8 +1,8 @@
 -- One replaced input after the other:
---   pair-none, pair-some             a pair that names no line leaves the row, another replaces its input
---   stuck-row-steps                  the row with its stuck inputs replaced, pair by pair
+--   pair_none, pair-some             a pair that names no line leaves the row, another replaces its input
+--   stuck_row_steps                  the row with its stuck inputs replaced, pair by pair
 --   bridge-none, bridge-some         where there is no bridge the row is left, else both inputs are replaced
---   bridge-row-steps                 as two pairs with the AND as their VALUE would
+--   bridge_row_steps                 as two pairs with the AND as their VALUE would
 --   pair-row-below, stuck-row-below, bridge-row-below, fault-row-below    rows of k inputs stay rows of k inputs
 --   own-digit                        a row is the inputs above one, that input and the inputs below
 --   off-row, on_row                  so to replace it the code takes the input away, and adds its power of two where the VALUE is 1
@@ -22,7 +22,7 @@ use Rattle.faults.proofs.BridgedRows.{both_small}
 use Rattle.faults.proofs.Digits.{digit, put}
 use Rattle.faults.proofs.Sticking.{replaced-put, replaced-below}
 use Rattle.statements.specs.declared.Bridge.{Bridge}
-use Rattle.statements.specs.declared.Fault.{Fault}
+use Rattle.statements.specs.Items.{Fault}
 use Rattle.statements.specs.declared.Pair.{Pair}
 use Rattle.lookup.specs.StuckPairs.{with_pair, present_pairs, pair_line, bit_for, pair_value, stuck_lines, stuck_values, pairs_of, OfInputs}
 use Rattle.lookup.specs.TableRows.{stuck_row_number, bridge_row, fault_row}
@@ -32,9 +32,9 @@ use Rattle.lookup.proofs.StuckPairs.{bit-small}
 abbrev stuck_by : Pair → Stuck
 stuck_by s = record { line = s.line; value = pair_value s }
 
-pub pair-none : (s : Pair) (x : ℕ) → s.line ≡ 0 → pair_row s x ≡ x
+pub pair_none : (s : Pair) (x : ℕ) → s.line ≡ 0 → pair_row s x ≡ x
 unfolding pair_row
-pair-none s x e = rw (eq-eqb s.line 0 e)
+pair_none s x e = rw (eq-eqb s.line 0 e)
 
 pub pair-some : (s : Pair) (x : ℕ) → (s.line ≡ 0 → ⊥) → pair_row s x ≡ replaced (stuck_by s) x
 unfolding pair_row
@@ -53,9 +53,9 @@ with_row s rest x = go (eqb s.line 0)
     go true = refl
     go false = refl
 
-pub stuck-row-steps : (f : Fault) (x : ℕ) → stuck_row_number f x ≡ pair_row f.third (pair_row f.second (pair_row f.first x))
+pub stuck_row_steps : (f : Fault) (x : ℕ) → stuck_row_number f x ≡ pair_row f.third (pair_row f.second (pair_row f.first x))
 unfolding pairs_of stuck_lines stuck_values present_pairs stuck_of replaced_all
-stuck-row-steps f x =
+stuck_row_steps f x =
     let y = pair_row f.first x in
     with_row f.first (with_pair f.second (with_pair f.third [])) x
     ∙ with_row f.second (with_pair f.third []) y
@@ -65,7 +65,7 @@ pub pair-row-below : (k : ℕ) (s : Pair) (x : ℕ) → s.line ≤ k → x < 2 ^
 pair-row-below k s x last h = go (eqb s.line 0) refl
   where
     go : (b : Bool) → eqb s.line 0 ≡ b → pair_row s x < 2 ^ k
-    go true e = subst (λ (n : ℕ). n < 2 ^ k) (sym (pair-none s x (eqb-true s.line 0 e))) h
+    go true e = subst (λ (n : ℕ). n < 2 ^ k) (sym (pair_none s x (eqb-true s.line 0 e))) h
     go false e =
         let some = eqb-false s.line 0 e in
         let low : 1 ≤ s.line = omega (arith, some) in
@@ -75,7 +75,7 @@ pub stuck-row-below : (k : ℕ) (f : Fault) (x : ℕ) → OfInputs k f → x < 2
 stuck-row-below k f x o h =
     let first = pair-row-below k f.first x o.first h in
     let second = pair-row-below k f.second (pair_row f.first x) o.second first in
-    subst (λ (n : ℕ). n < 2 ^ k) (sym (stuck-row-steps f x)) (pair-row-below k f.third (pair_row f.second (pair_row f.first x)) o.third second)
+    subst (λ (n : ℕ). n < 2 ^ k) (sym (stuck_row_steps f x)) (pair-row-below k f.third (pair_row f.second (pair_row f.first x)) o.third second)
 
 -- A bridge.
 
@@ -103,8 +103,8 @@ module _ (b : Bridge) (x : ℕ) where
   at_both : (line y : ℕ) → (line ≡ 0 → ⊥) → pair_row (stuck_at_both line) y ≡ replaced (record { line = line; value = both_of b.first b.second x }) y
   at_both line y some = pair-some (stuck_at_both line) y some ∙ ap (λ (v : ℕ). replaced (record { line = line; value = v }) y) both-back
 
-  pub bridge-row-steps : (b.first ≡ 0 → ⊥) → b.first ≤ b.second → bridge_row b x ≡ pair_row (stuck_at_both b.second) (pair_row (stuck_at_both b.first) x)
-  bridge-row-steps some rises =
+  pub bridge_row_steps : (b.first ≡ 0 → ⊥) → b.first ≤ b.second → bridge_row b x ≡ pair_row (stuck_at_both b.second) (pair_row (stuck_at_both b.first) x)
+  bridge_row_steps some rises =
       bridge-some some
       ∙ sym (at_both b.second (replaced (record { line = b.first; value = both_of b.first b.second x }) x) (λ e. some (omega arith)))
       ∙ ap (pair_row (stuck_at_both b.second)) (sym (at_both b.first x some))
@@ -116,7 +116,7 @@ module _ (b : Bridge) (x : ℕ) where
       go true e = subst (λ (n : ℕ). n < 2 ^ k) (sym (bridge-none (eqb-true b.first 0 e))) h
       go false e =
           let once = pair-row-below k (stuck_at_both b.first) x (omega arith) h in
-          subst (λ (n : ℕ). n < 2 ^ k) (sym (bridge-row-steps (eqb-false b.first 0 e) rises))
+          subst (λ (n : ℕ). n < 2 ^ k) (sym (bridge_row_steps (eqb-false b.first 0 e) rises))
           (pair-row-below k (stuck_at_both b.second) (pair_row (stuck_at_both b.first) x) last once)
 
 pub fault-row-below : (k : ℕ) (f : Fault) (x : ℕ) → OfInputs k f → x < 2 ^ k → fault_row f x < 2 ^ k

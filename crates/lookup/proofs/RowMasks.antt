@@ -21,7 +21,7 @@ use Rattle.integer.proofs.Tabs.{tab-ext}
 use Rattle.faults.proofs.Digits.{put, put-shows, put_keeps}
 use Rattle.faults.proofs.Sticking.{replaced-put}
 use Rattle.statements.specs.declared.Bridge.{Bridge}
-use Rattle.statements.specs.declared.Fault.{Fault}
+use Rattle.statements.specs.Items.{Fault}
 use Rattle.statements.specs.declared.Pair.{Pair}
 use Rattle.tables.specs.Tables.{TruthTable}
 use Rattle.tables.specs.TableWellFormed.{TableRight}
@@ -29,7 +29,7 @@ use Rattle.lookup.specs.StuckPairs.{pair_value, OfInputs}
 use Rattle.lookup.specs.TableRows.{stuck_row_number, bridge_row, fault_row, table_row, table_rows}
 use Rattle.lookup.specs.Steps.{pair_row}
 use Rattle.lookup.proofs.StuckPairs.{bit-small}
-use Rattle.lookup.proofs.PairRows.{pair-none, pair-some, stuck-row-steps, stuck-row-below, bridge-row-below, fault-row-below}
+use Rattle.lookup.proofs.PairRows.{pair_none, pair-some, stuck_row_steps, bridge-row-below, fault-row-below}
 use Rattle.lookup.proofs.RowsOfTables.{table-room}
 
 -- bit i is kept, or the same whatever the row
@@ -57,7 +57,7 @@ pair-settled s i = none_or (eqb s.line 0) refl
         inl (λ x. ap (λ (n : ℕ). bit n i) (replaces some x) ∙ ap (λ (n : ℕ). eqb n 1) (put_keeps (s.line - 1) (pair_value s) x (bit-small s.value) i other))
 
     none_or : (b : Bool) → eqb s.line 0 ≡ b → Settled (pair_row s) i
-    none_or true e = inl (λ x. ap (λ (n : ℕ). bit n i) (pair-none s x (eqb-true s.line 0 e)))
+    none_or true e = inl (λ x. ap (λ (n : ℕ). bit n i) (pair_none s x (eqb-true s.line 0 e)))
     none_or false e = own-or (eqb-false s.line 0 e) (eqb i (s.line - 1)) refl
 
 pub stuck-row-settled : (f : Fault) (i : ℕ) → Settled (stuck_row_number f) i
@@ -67,8 +67,8 @@ stuck-row-settled f i =
     (after (pair_row f.first) (pair_row f.second) i (pair-settled f.first i) (pair-settled f.second i)) (pair-settled f.third i))
   where
     same : Settled (λ x. pair_row f.third (pair_row f.second (pair_row f.first x))) i → Settled (stuck_row_number f) i
-    same (inl p) = inl (λ x. ap (λ (n : ℕ). bit n i) (stuck-row-steps f x) ∙ p x)
-    same (inr p) = inr (p.0, λ x. ap (λ (n : ℕ). bit n i) (stuck-row-steps f x) ∙ p.1 x)
+    same (inl p) = inl (λ x. ap (λ (n : ℕ). bit n i) (stuck_row_steps f x) ∙ p x)
+    same (inr p) = inr (p.0, λ x. ap (λ (n : ℕ). bit n i) (stuck_row_steps f x) ∙ p.1 x)
 
 -- of numbers that have no bit that `all` has not
 masked : (g : ℕ → ℕ) → ((i : ℕ) → Settled g i) → (all x : ℕ) → bit_and x all ≡ x → bit_or (bit_and x (bit_xor (g all) (g 0))) (g 0) ≡ g x

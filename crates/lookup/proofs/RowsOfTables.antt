@@ -17,7 +17,6 @@ use lib.Dec.{lit≤}
 use lib.IntN.{ℤ, pos, nat_abs}
 use lib.ListN.{length, get_or, get_or-eq_default}
 use lib.Pow.{pow_mono}
-use lib.Seq.{get_or-take}
 use Rattle.integer.specs.Tab.{tab, nth, Within}
 use Rattle.integer.proofs.Bounds.{within_more}
 use Rattle.integer.proofs.Tabs.{length-tab, get_or-tab, tab-ext}
@@ -26,21 +25,21 @@ use Rattle.sections.specs.FaultLines.{BridgeFault}
 use Rattle.sections.proofs.FaultsRight.{free-line}
 use Rattle.statements.specs.Items.{no_bridge, sound}
 use Rattle.statements.specs.declared.Bridge.{Bridge}
-use Rattle.statements.specs.declared.Fault.{Fault}
+use Rattle.statements.specs.Items.{Fault}
 use Rattle.tables.specs.Tables.{TruthTable, table_fault_at}
 use Rattle.tables.specs.TableWellFormed.{TableRight}
 use Rattle.lookup.specs.StuckPairs.{pairs_of, OfInputs}
 use Rattle.lookup.specs.TableRows.{stuck_row_number, bridge_row, fault_row, table_row, table_rows}
 use Rattle.lookup.specs.Steps.{pair_row}
 use Rattle.lookup.proofs.StuckPairs.{sound-of-inputs, fault-of-inputs}
-use Rattle.lookup.proofs.PairRows.{pair-none, stuck-row-steps, bridge-none, bridge-some, fault-row-below}
+use Rattle.lookup.proofs.PairRows.{pair_none, stuck_row_steps, bridge-none, bridge-some, fault-row-below}
 
 no_pairs : (f : Fault) (x : ℕ) → f.first.line ≡ 0 → f.second.line ≡ 0 → f.third.line ≡ 0 → stuck_row_number f x ≡ x
 no_pairs f x first second third =
-    stuck-row-steps f x
-    ∙ pair-none f.third (pair_row f.second (pair_row f.first x)) third
-    ∙ pair-none f.second (pair_row f.first x) second
-    ∙ pair-none f.first x first
+    stuck_row_steps f x
+    ∙ pair_none f.third (pair_row f.second (pair_row f.first x)) third
+    ∙ pair_none f.second (pair_row f.first x) second
+    ∙ pair_none f.first x first
 
 pub sound-mark : (x : ℕ) → fault_row sound x ≡ x
 unfolding fault_row

@@ -23,7 +23,7 @@ use Rattle.faults.proofs.Opening.{Bits}
 use Rattle.faults.proofs.Sticking.{Rises}
 use Rattle.statements.specs.Items.{sound}
 use Rattle.statements.specs.declared.Bridge.{Bridge}
-use Rattle.statements.specs.declared.Fault.{Fault}
+use Rattle.statements.specs.Items.{Fault}
 use Rattle.statements.specs.declared.Pair.{Pair}
 use Rattle.lookup.specs.StuckPairs.{with_pair, present_pairs, pair_line, bit_for, pair_value, stuck_lines, stuck_values, pairs_of, OfInputs}
 

@@ -8,7 +8,7 @@ use Rattle.std.specs.Prelude.{ℕ, ◌^◌, Bool, ◌&&◌, eqb, length, get_or}
 use Rattle.integer.specs.Counting.{up_to}
 use Rattle.integer.specs.ListTests.{keep}
 use Rattle.transform.specs.Spectrum.{sign}
-use Rattle.statements.specs.declared.Fault.{Fault}
+use Rattle.statements.specs.Items.{Fault}
 use Rattle.tables.specs.Tables.{TruthTable}
 use Rattle.lookup.specs.TableRows.{fault_row}
 

@@ -2,7 +2,7 @@
 -- to three LINE,VALUE pairs" as "one to three rising inputs in 1 to n with values 0 or 1".
 use Rattle.std.specs.Prelude.{ℕ, ◌≤◌, Bool, true, false, cond, List, [], ◌∷◌, map, eqb}
 use Rattle.faults.specs.Faults.{Stuck, stuck_of}
-use Rattle.statements.specs.declared.Fault.{Fault}
+use Rattle.statements.specs.Items.{Fault}
 use Rattle.statements.specs.declared.Pair.{Pair}
 
 -- a pair that names no line is not there: lines count from 1

@@ -7,7 +7,7 @@ use Rattle.std.specs.Prelude.{ℕ, ◌^◌, cond, List, eqb, ℤ, pos, get_or}
 use Rattle.integer.specs.Tab.{tab}
 use Rattle.faults.specs.Faults.{replaced_all, bridged_row}
 use Rattle.statements.specs.declared.Bridge.{Bridge}
-use Rattle.statements.specs.declared.Fault.{Fault}
+use Rattle.statements.specs.Items.{Fault}
 use Rattle.tables.specs.Tables.{TruthTable}
 use Rattle.lookup.specs.StuckPairs.{pairs_of}
 

@@ -13,17 +13,15 @@ use native.Mathlib.Omega.{arith}
 use lib.Dec.{leb, ltb, lit≤}
 use lib.ListN.{length}
 use borrow.Author.Tests.{ltb-true, leb-true, eqb-true, lt-ltb}
-use Rattle.std.specs.Prelude.{Ok}
 use Rattle.text.specs.Text.{before, after, has_byte, line_end, field_of, field_count}
 use Rattle.integer.proofs.Bools.{both}
 use Rattle.statements.specs.Items.{no_output, sound}
-use Rattle.gate_lines.specs.GateItems.{no_gate, SecondRight, GateRight}
+use Rattle.gate_lines.specs.GateItems.{Gate, no_gate, SecondRight, GateRight}
 use Rattle.fields.specs.Fields.{value_at, fits}
 use Rattle.statements.specs.Lines.{is_head, head_fits, head_refusal, head_of, is_output, output_fits, output_refusal, output_of, fault_line_of}
 use Rattle.gate_lines.specs.GateLines.{second_fits, added_fits, is_gate, gate_fits, reads_below, gate_refusal, gate_of}
 use Rattle.kinds.specs.Kinds.{kind_of}
-use Rattle.statements.specs.declared.Fault.{Fault}
-use Rattle.gate_lines.specs.declared.Gate.{Gate}
+use Rattle.statements.specs.Items.{Fault}
 use Rattle.statements.specs.declared.Head.{Head}
 use Rattle.kinds.specs.declared.Kind.{Kind}
 use Rattle.kinds.specs.declared.Kind.TheVariants.{And, Or, Nand, Nor, Xor, Xnor, Not}

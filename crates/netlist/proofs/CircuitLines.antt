@@ -17,12 +17,11 @@ use Rattle.writing.proofs.Writings.{line-long}
 use Rattle.fields.specs.Fields.{value_at, is_line, unless, line_from}
 use Rattle.statements.specs.Lines.{circuit_word, output_word, is_head, head_refusal, head_of, is_output, output_refusal, output_of}
 use Rattle.gate_lines.specs.GateLines.{gate_word, is_gate, gate_refusal, gate_of}
-use Rattle.gate_lines.specs.GateItems.{line_fields, GateRight}
+use Rattle.gate_lines.specs.GateItems.{Gate, line_fields, GateRight}
 use Rattle.statements.proofs.FormsMeant.{head-form, output-form}
 use Rattle.gate_lines.proofs.GateFormsMeant.{gate-formed}
 use Rattle.gate_lines.proofs.GatesWritten.{fields-most, gate-passes, gate-says, fields-kept}
 use Rattle.kinds.specs.Kinds.{kind_word}
-use Rattle.gate_lines.specs.declared.Gate.{Gate}
 use Rattle.statements.specs.declared.Head.{Head}
 use Rattle.statements.specs.declared.Output.{Output}
 use Rattle.kinds.proofs.KindWords.{kind-written, kind-only}

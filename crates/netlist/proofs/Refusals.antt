@@ -17,8 +17,8 @@ use Rattle.text.specs.Text.{text_bytes, before, after, has_byte, line_end}
 use Rattle.fields.specs.Fields.{unless, Fails}
 use Rattle.statements.specs.Lines.{head_refusal, output_refusal, output_of, fault_line_of, bridge_tests, bridge_refusal, fault_refusal, names_bridge, fault_line_refusal}
 use Rattle.gate_lines.specs.GateLines.{gate_refusal, gate_of}
-use Rattle.statements.specs.declared.Fault.{Fault}
-use Rattle.gate_lines.specs.declared.Gate.{Gate}
+use Rattle.statements.specs.Items.{Fault}
+use Rattle.gate_lines.specs.GateItems.{Gate}
 use Rattle.statements.specs.declared.Head.{Head}
 use Rattle.statements.specs.declared.Output.{Output}
 use Rattle.sections.specs.Sections.{line_refusal, lines_from, lines_of}

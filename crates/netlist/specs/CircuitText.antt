@@ -8,11 +8,10 @@ use Rattle.std.specs.Prelude.{ℕ, List, [], ◌∷◌, ◌++◌, map, pos, leng
 use Rattle.text.specs.Text.{comma}
 use Rattle.writing.specs.Writing.{line_of}
 use Rattle.statements.specs.Items.{no_output, sound}
-use Rattle.gate_lines.specs.GateItems.{no_gate, line_fields}
+use Rattle.gate_lines.specs.GateItems.{Gate, no_gate, line_fields}
 use Rattle.statements.specs.Lines.{circuit_word, output_word}
 use Rattle.gate_lines.specs.GateLines.{gate_word}
 use Rattle.kinds.specs.Kinds.{kind_word}
-use Rattle.gate_lines.specs.declared.Gate.{Gate}
 use Rattle.statements.specs.declared.Output.{Output}
 use Rattle.sections.specs.Sections.{each_line}
 use Rattle.sections.specs.FaultLines.{fault_line}

@@ -4,8 +4,8 @@ use Rattle.std.specs.Prelude.{ℕ, ◌+◌, cond, List, [], eqb, ltb, length}
 use Rattle.text.specs.Text.{text_bytes, before, after, line_end}
 use Rattle.statements.specs.Lines.{head_refusal, head_of, output_of, fault_line_of, output_refusal}
 use Rattle.gate_lines.specs.GateLines.{gate_of, gate_refusal, narrow_refusal}
-use Rattle.statements.specs.declared.Fault.{Fault}
-use Rattle.gate_lines.specs.declared.Gate.{Gate}
+use Rattle.statements.specs.Items.{Fault}
+use Rattle.gate_lines.specs.GateItems.{Gate}
 use Rattle.statements.specs.declared.Head.{Head}
 use Rattle.statements.specs.declared.Output.{Output}
 use Rattle.sections.specs.Sections.{Read, items, line_refused, line_refusal, lines_of}

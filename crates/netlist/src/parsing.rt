@@ -1,5 +1,5 @@
 // The circuit text, line by line.
-ghost use Rattle.std.specs.Prelude.{◌≡◌, ◌≤◌, drop};
+ghost use Rattle.std.specs.Prelude.{◌≡◌, ◌≤◌};
 ghost use Rattle.statements.specs.Lines.{output_of};
 ghost use Rattle.gate_lines.specs.GateLines.{gate_of};
 ghost use Rattle.netlist.specs.Heads.{HeadRight};
@@ -49,10 +49,10 @@ impl LineKind for OutputLines {
     }
 }
 
-// The lines after the first, from `from` on.
-fn body(text: &[u8], from: usize, head: Head) -> Result<Circuit, Refusal>
+// The lines after the first.
+fn body(text: &[u8], head: Head) -> Result<Circuit, Refusal>
     requires { HeadRight head }
-    ensures { told accepted rejected result ≡ body_of head (drop from text.now) }
+    ensures { told accepted rejected result ≡ body_of head text.now }
 {
     let inputs = head.inputs;
     let top = inputs + head.gates;
@@ -60,27 +60,24 @@ fn body(text: &[u8], from: usize, head: Head) -> Result<Circuit, Refusal>
     let after_gates = sections::read_lines(
         &GateLines { inputs },
         text,
-        from,
         2,
         &mut gates[..head.gates],
     )?;
     let mut outputs = [Output::NONE; 4];
     let after_outputs = sections::read_lines(
         &OutputLines { top },
-        text,
         after_gates,
         head.gates + 2,
         &mut outputs[..head.outputs],
     )?;
     let mut faults = [Fault::SOUND; 32];
-    let at = sections::read_lines(
+    let rest = sections::read_lines(
         &FaultLines { inputs, top },
-        text,
         after_outputs,
         head.gates + head.outputs + 2,
         &mut faults[..head.faults],
     )?;
-    if at < text.len() {
+    if !rest.is_empty() {
         return Err(Refusal::TextGoesOn {
             line: head.gates + head.outputs + head.faults + 2,
         });
@@ -93,14 +90,15 @@ fn body(text: &[u8], from: usize, head: Head) -> Result<Circuit, Refusal>
     })
 }
 
-// The circuit that a text states, or why it is refused.
+// The circuit that a text states, or why it is refused. The parser of tables begins alike; what both share is in `sections`, and one function for both would
+// take the head, the body, their definitions and laws as parameters.
 pub fn parse(text: &[u8]) -> Result<Circuit, Refusal>
     ensures { told accepted rejected result ≡ parse_of text.now }
 {
     if text::TEXT_BYTES < text.len() {
         return Err(Refusal::TextTooLong);
     }
-    let (line, at) = sections::line_at(text, 0, 1)?;
+    let (line, rest) = sections::first_line(text, 1)?;
     let head = statements::head_line(line).map_err(|flaw| Refusal::Line { flaw, line: 1 })?;
-    body(text, at, head)
+    body(rest, head)
 }

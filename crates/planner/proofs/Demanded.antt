@@ -26,7 +26,7 @@ use Rattle.devices.proofs.Descriptions.{described-proper}
 use Rattle.transform.specs.Spectrum.{coefficient_of}
 use Rattle.planner.specs.PlanCall.{Verdict, refused, planned, searched, silent_first, verdict_of, working_numbers, problem_verdict, plan_verdict, plan_numbers, plan_answer}
 use Rattle.planner.specs.Demand.{Named, Shows, Possible, Silent, SomeSilent, Right}
-use Rattle.planner.proofs.PlanLaws.{kept-four}
+use Rattle.search.proofs.SetsBySize.{kept-four}
 
 -- places past the size hold 0
 rest-none : (xs : List ℕ) (i : ℕ) → length xs ≤ i → get_or (four_of xs) i 0 ≡ 0

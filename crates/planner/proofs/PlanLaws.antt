@@ -1,17 +1,15 @@
 -- The plan call:
 --   MarkedBelow            no fault below f is silent, and the masks are those of the faults below f
---   Turn, may-mark         fault f with its rows, before it is marked, and what marking it requires
+--   may-mark               what marking fault f by its rows requires
 --   marked-none, marked-one-more, marked-silent, marked_all    a loop that marks: at 0, one fault more, at a silent fault, at the end
---   first-silent-count     where the first silent fault is not below the number of faults, it is that number
---   AllMarked, may-find    no fault is silent and all are marked, and what the search requires
+--   AllMarked, all-marked, may-find    no fault is silent and all are marked, and what the search requires
 --   verdict-silent, verdict-chosen    the verdict's numbers: 13, and 14 or the labels
---   kept-four              the labels of a plan, at the front of four
 --   verdict-text, verdict-room, verdict-served    the call's verdict, by what the text describes
 --   front-labels           the front of the labels that the order gives
 --   kept, front-used       the working numbers, untouched or with their front used
 use mathlib.Core.Path.{◌≡◌, refl, sym, ap, ap₂, ◌∙◌, subst}
 use mathlib.Core.Bool.{Bool, true, false, cond}
-use mathlib.Core.List.{List, [], ◌∷◌, ◌++◌}
+use mathlib.Core.List.{List, ◌++◌}
 use mathlib.Core.Option.{Option, none, some}
 use Prim.Native.Nat.{ℕ, suc, ◌+◌, ◌-◌, ◌<◌, ◌≤◌, ◌^◌}
 use native.Mathlib.Numerals.{add-one}
@@ -25,11 +23,10 @@ use borrow.Author.Count.{below_more}
 use borrow.Author.Tests.{lt-ltb, le-ltb}
 use Rattle.cover.specs.Cover.{fault_rows, silent, silent_at, first_silent, signature_of}
 use Rattle.cover.specs.Order.{labels_below}
-use Rattle.std.specs.Prelude.{Option as Found, None, Some}
-use Rattle.search.specs.Sets.{plan_of, four_of}
+use Rattle.std.specs.Prelude.{Option as Found}
+use Rattle.search.specs.Sets.{plan_of}
 use Rattle.search.specs.Steps.{clears, set_of, set_at}
 use Rattle.cover.specs.Steps.{marked, masks_of}
-use Rattle.search.specs.declared.LabelSet.{LabelSet}
 use Rattle.std.specs.Option.{ok_or}
 use Rattle.refusals.specs.declared.Refusal.TheVariants.{NoSet}
 use Rattle.cover.proofs.LabelOrder.{labels-count, labels-below}
@@ -40,53 +37,54 @@ use Rattle.integer.specs.Counting.{up_to}
 use Rattle.integer.specs.ListTests.{Below}
 use Rattle.integer.proofs.Bools.{clash}
 use Rattle.integer.proofs.Bounds.{within_more}
-use Rattle.integer.proofs.Firsts.{first-le, first-hit, first-none}
+use Rattle.integer.proofs.Firsts.{first-hit, first-none}
 use Rattle.integer.proofs.Machine.{due, due-is, due-few}
 use Rattle.devices.specs.Describing.{described, refused_at, description_of}
 use Rattle.devices.specs.Problems.{Problem, rows_at, Proper}
-use Rattle.planner.specs.PlanCall.{Verdict, refused, searched, silent_first, verdict_of, working_numbers, plan_verdict, Planned, plan_numbers, planned_as, may_use, WorkKept}
+use Rattle.planner.specs.PlanCall.{Verdict, refused, searched, silent_first, verdict_of, working_numbers, plan_verdict, plan_numbers, planned_as, may_use, WorkKept}
 
 -- Marking the faults.
 
 abbrev labels_for : Problem → List ℕ
 labels_for p = labels_below (2 ^ p.inputs)
 
-pub record MarkedBelow (p : Problem) (f : ℕ) (masks : List ℕ) : Type 0 where
+-- by the sound rows and the labels that are at hand
+pub record MarkedBelow (p : Problem) (sound-rows : List ℤ) (labels : List ℕ) (f : ℕ) (masks : List ℕ) : Type 0 where
+  pub right : Proper p
+  pub sound-are : sound-rows ≡ p.sound
+  pub labels-are : labels ≡ labels_for p
   pub none-silent : (x : ℕ) → x < f → silent_at p.sound p.faulted x ≡ false
   pub marks : masks ≡ masks_of p.sound p.faulted (labels_for p) f
 
 sound-long : (p : Problem) → Proper p → length p.sound ≡ 2 ^ p.inputs
 sound-long p w = w.rows_all 0 (omega arith)
 
-pub marked-none : (p : Problem) → Proper p → (masks : List ℕ) (size : ℕ) → size ≡ 2 ^ p.inputs → masks ≡ replicate size 0 → MarkedBelow p 0 masks
-marked-none p w masks size e k = record {
+pub marked-none : (p : Problem) {sound-rows : List ℤ} {labels : List ℕ} → Proper p → (sound-rows ≡ p.sound) × (labels ≡ labels_for p)
+    → (masks : List ℕ) (size : ℕ) → size ≡ 2 ^ p.inputs → masks ≡ replicate size 0 → MarkedBelow p sound-rows labels 0 masks
+marked-none p w s masks size e k = record {
+  right = w;
+  sound-are = s.0;
+  labels-are = s.1;
   none-silent = λ x h. absurd (omega arith);
   marks = k ∙ ap (λ (s : ℕ). replicate s 0) (e ∙ sym (sound-long p w)) ∙ sym (no-masks p.sound p.faulted (labels_for p));
 }
 
-pub marked_all : (p : Problem) (f : ℕ) (masks : List ℕ) → f ≡ length p.faulted → MarkedBelow p f masks → f ≡ silent_first p
+pub marked_all : (p : Problem) {sound-rows : List ℤ} {labels : List ℕ} (f : ℕ) {masks : List ℕ} → f ≡ length p.faulted → MarkedBelow p sound-rows labels f masks → f ≡ silent_first p
 unfolding silent_first first_silent
-marked_all p f masks all so_far =
+marked_all p f all so_far =
     all ∙ sym (first-none (silent_at p.sound p.faulted) (length p.faulted) (λ x h. so_far.none-silent x (subst (λ (k : ℕ). x < k) (sym all) h)))
 
 -- fault f, with its rows, before it is marked
-pub record Turn (p : Problem) (f : ℕ) (masks : List ℕ) (sound-rows faulted : List ℤ) (labels : List ℕ) : Type 0 where
-  pub right : Proper p
-  pub low : f < length p.faulted
-  pub so_far : MarkedBelow p f masks
-  pub sound-are : sound-rows ≡ p.sound
-  pub labels-are : labels ≡ labels_for p
-  pub faulted-are : faulted ≡ rows_at p (f + 1)
-
-module _ {p : Problem} {f : ℕ} {masks : List ℕ} {sound-rows faulted : List ℤ} {labels : List ℕ} (t : Turn p f masks sound-rows faulted labels) where
+module _ {p : Problem} {sound-rows : List ℤ} {labels : List ℕ} {f : ℕ} {masks : List ℕ} (t : MarkedBelow p sound-rows labels f masks)
+    {faulted : List ℤ} (faulted-are : faulted ≡ rows_at p (f + 1)) (low : f < length p.faulted) where
   here : faulted ≡ fault_rows p.faulted f
-  here = t.faulted-are ∙ ap (rows_at p) (add-one f)
+  here = faulted-are ∙ ap (rows_at p) (add-one f)
 
   long : length sound-rows ≡ 2 ^ p.inputs
   long = ap length t.sound-are ∙ sound-long p t.right
 
   named : f + 1 ≤ length p.faulted
-  named = omega (arith, t.low)
+  named = omega (arith, low)
 
   in-range : (k : ℕ) → k ≤ length p.faulted → Within 1000 (rows_at p k)
   in-range k h = within_more {B = 60} {C = 1000} (rows_at p k) (lit≤ tt) (t.right.rows-small k h)
@@ -99,11 +97,11 @@ module _ {p : Problem} {f : ℕ} {masks : List ℕ} {sound-rows faulted : List �
   may-mark =
       let masks-long = length-masks p.sound p.faulted (labels_for p) f in
       let low-labels = subst (Below (2 ^ p.inputs)) (sym t.labels-are) (labels-below (2 ^ p.inputs)) in
-      let low-masks = subst (Below (2 ^ f)) (sym t.so_far.marks) (masks-below p.sound p.faulted (labels_for p) f) in (
-        (t.right.inputs-high, omega (arith, t.right.faults-high, t.low), long, ap length t.faulted-are ∙ t.right.rows_all (f + 1) named ∙ sym long),
+      let low-masks = subst (Below (2 ^ f)) (sym t.marks) (masks-below p.sound p.faulted (labels_for p) f) in (
+        (t.right.inputs-high, omega (arith, t.right.faults-high, low), long, ap length faulted-are ∙ t.right.rows_all (f + 1) named ∙ sym long),
         (
-          (ap length t.labels-are ∙ labels-count p.inputs t.right.inputs-high ∙ sym long, ap length t.so_far.marks ∙ masks-long ∙ ap length (sym t.sound-are)),
-          ((subst (λ (k : ℕ). Below k labels) (sym long) low-labels, low-masks), (subst (Within 1000) (sym t.sound-are) (in-range 0 (omega arith)), subst (Within 1000) (sym t.faulted-are) (in-range (f + 1) named))),
+          (ap length t.labels-are ∙ labels-count p.inputs t.right.inputs-high ∙ sym long, ap length t.marks ∙ masks-long ∙ ap length (sym t.sound-are)),
+          ((subst (λ (k : ℕ). Below k labels) (sym long) low-labels, low-masks), (subst (Within 1000) (sym t.sound-are) (in-range 0 (omega arith)), subst (Within 1000) (sym faulted-are) (in-range (f + 1) named))),
         ),
       )
 
@@ -113,14 +111,17 @@ module _ {p : Problem} {f : ℕ} {masks : List ℕ} {sound-rows faulted : List �
 
   pub marked-silent : silent sound-rows faulted ≡ true → f ≡ silent_first p
   unfolding silent_first first_silent
-  marked-silent e = sym (first-hit (silent_at p.sound p.faulted) (length p.faulted) f t.low t.so_far.none-silent (silent-here ∙ e))
+  marked-silent e = sym (first-hit (silent_at p.sound p.faulted) (length p.faulted) f low t.none-silent (silent-here ∙ e))
 
-  pub marked-one-more : (next : List ℕ) → silent sound-rows faulted ≡ false → next ≡ marked sound-rows faulted labels f masks → MarkedBelow p (f + 1) next
+  pub marked-one-more : (next : List ℕ) → silent sound-rows faulted ≡ false → next ≡ marked sound-rows faulted labels f masks → MarkedBelow p sound-rows labels (f + 1) next
   marked-one-more next e k = record {
-    none-silent = below_more (λ x. silent_at p.sound p.faulted x ≡ false) f t.so_far.none-silent (silent-here ∙ e);
+    right = t.right;
+    sound-are = t.sound-are;
+    labels-are = t.labels-are;
+    none-silent = below_more (λ x. silent_at p.sound p.faulted x ≡ false) f t.none-silent (silent-here ∙ e);
     marks =
         k ∙ ap₂ (λ (a b : List ℤ). marked a b labels f masks) t.sound-are here ∙ ap (λ (l : List ℕ). marked p.sound (fault_rows p.faulted f) l f masks) t.labels-are
-        ∙ marked_more p.sound p.faulted (labels_for p) f masks t.so_far.marks ∙ ap (masks_of p.sound p.faulted (labels_for p)) (sym (add-one f));
+        ∙ marked_more p.sound p.faulted (labels_for p) f masks t.marks ∙ ap (masks_of p.sound p.faulted (labels_for p)) (sym (add-one f));
   }
 
 -- The verdict.
@@ -129,23 +130,8 @@ pub verdict-silent : (p : Problem) (first : ℕ) → first ≡ silent_first p �
 unfolding verdict_of
 verdict-silent p first e h = rw (← e, lt-ltb first (length p.faulted) h, add-one)
 
-abbrev pub planned_of : LabelSet → Planned
-planned_of s = record { number = 0; place = 0; size = s.size; labels = s.labels }
-
-numbers-none : (o : Option (List ℕ)) → None ≡ set_of o → plan_numbers (searched o) ≡ plan_numbers (refused 14 0)
-numbers-none none e = refl
-numbers-none (some xs) e = cc
-
-numbers-some : (o : Option (List ℕ)) (s : LabelSet) → Some s ≡ set_of o → plan_numbers (searched o) ≡ planned_of s
-numbers-some none s e = cc
-numbers-some (some xs) s e = let same : s ≡ record { size = length xs; labels = four_of xs } = cc in ap planned_of (sym same)
-
 abbrev signature : Problem → Option (List ℕ)
 signature p = signature_of p.sound p.faulted p.cap
-
-pub first-silent-count : (p : Problem) (q first : ℕ) → length p.faulted ≡ q → first ≡ silent_first p → q ≤ first → first ≡ q
-unfolding silent_first first_silent
-first-silent-count p q first e k h = omega (arith, first-le (silent_at p.sound p.faulted) (length p.faulted))
 
 -- no fault is silent, and all are marked
 pub record AllMarked (p : Problem) (q : ℕ) (labels masks : List ℕ) : Type 0 where
@@ -154,6 +140,16 @@ pub record AllMarked (p : Problem) (q : ℕ) (labels masks : List ℕ) : Type 0 
   pub none-silent : q ≤ silent_first p
   pub labels-are : labels ≡ labels_for p
   pub masks-are : masks ≡ masks_of p.sound p.faulted (labels_for p) q
+
+pub all-marked : {p : Problem} {q : ℕ} {labels masks : List ℕ} → Proper p → q ≡ length p.faulted → labels ≡ labels_for p → length p.faulted ≤ silent_first p
+    → masks ≡ masks_of p.sound p.faulted (labels_for p) (length p.faulted) → AllMarked p q labels masks
+all-marked {p} w e l s m = record {
+  right = w;
+  count = sym e;
+  none-silent = omega (arith, e, s);
+  labels-are = l;
+  masks-are = m ∙ ap (masks_of p.sound p.faulted (labels_for p)) (sym e);
+}
 
 module _ {p : Problem} {q : ℕ} {labels masks : List ℕ} (r : AllMarked p q labels masks) where
   -- what the search requires
@@ -168,7 +164,7 @@ module _ {p : Problem} {q : ℕ} {labels masks : List ℕ} (r : AllMarked p q la
       )
 
   -- what it finds
-  module _ (o : Found LabelSet) (found : o ≡ set_at labels (plan_of (clears masks (2 ^ q - 1)) (up_to (length masks)) p.cap)) where
+  module _ (o : Found (List ℕ)) (found : o ≡ set_at labels (plan_of (clears masks (2 ^ q - 1)) (up_to (length masks)) p.cap)) where
     as-signature : o ≡ set_of (signature p)
     as-signature =
         let all : q ≡ length p.faulted = sym r.count in
@@ -180,27 +176,12 @@ module _ {p : Problem} {q : ℕ} {labels masks : List ℕ} (r : AllMarked p q la
     unfolding verdict_of
     as-searched = rw (le-ltb (silent_first p) (length p.faulted) (omega (arith, r.count, r.none-silent)))
 
-    verdict-none : o ≡ None → plan_numbers (refused 14 0) ≡ plan_numbers (verdict_of p)
-    verdict-none e = sym (ap plan_numbers as-searched ∙ numbers-none (signature p) (sym e ∙ as-signature))
-
-    verdict-found : (s : LabelSet) → o ≡ Some s → planned_of s ≡ plan_numbers (verdict_of p)
-    verdict-found s e = sym (ap plan_numbers as-searched ∙ numbers-some (signature p) s (sym e ∙ as-signature))
-
     pub verdict-chosen : planned_as (ok_or o NoSet) ≡ plan_numbers (verdict_of p)
-    verdict-chosen = go o refl
+    verdict-chosen = rw (as-signature, as-searched) (go (signature p))
       where
-        go : (u : Found LabelSet) → o ≡ u → planned_as (ok_or u NoSet) ≡ plan_numbers (verdict_of p)
-        go None e = verdict-none e
-        go (Some s) e = verdict-found s e
-
--- a list of at most four, as it is returned
-pub kept-four : (xs : List ℕ) → length xs ≤ 4 → take (length xs) (four_of xs) ≡ xs
-kept-four [] h = refl
-kept-four (a ∷ []) h = refl
-kept-four (a ∷ b ∷ []) h = refl
-kept-four (a ∷ b ∷ c ∷ []) h = refl
-kept-four (a ∷ b ∷ c ∷ d ∷ []) h = refl
-kept-four (a ∷ b ∷ c ∷ d ∷ e ∷ xs) h = absurd (omega arith)
+        go : (s : Option (List ℕ)) → planned_as (ok_or (set_of s) NoSet) ≡ plan_numbers (searched s)
+        go none = refl
+        go (some labels) = refl
 
 -- by what was described
 module _ (text : List ℕ) (work : ℕ) where

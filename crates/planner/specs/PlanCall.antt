@@ -58,8 +58,7 @@ plan_numbers (planned labels) = record { number = 0; place = 0; size = length la
 
 -- and of what the code answers
 abbrev pub planned_as : Result LabelSet Refusal → Planned
-planned_as result =
-    told (λ s. record { number = 0; place = 0; size = s.size; labels = s.labels }) (λ number place. record { number = number; place = place; size = 0; labels = four_of [] }) result
+planned_as result = told (λ labels. plan_numbers (planned labels)) (λ number place. plan_numbers (refused number place)) result
 
 unfoldable pub plan_answer : List ℕ → ℕ → Planned
 plan_answer text work = plan_numbers (plan_verdict text work)

@@ -10,7 +10,8 @@ use devices::Device;
 use refusals::Refusal;
 use search::LabelSet;
 
-// Marks each fault at the labels that cover it, up to the first silent fault, whose index it gives.
+// Marks each fault at the labels that cover it, up to the first silent fault, whose index it gives. Rows and masks stay single arguments: a
+// struct of them would be made here and taken apart in the next line. It is a `for`: `find` promises nothing of what its closure writes.
 fn mark_faults(
     d: &Device,
     sound: &[i32],

@@ -10,10 +10,8 @@ use Prim.Native.Nat.{ℕ, zero, suc, ◌+◌, ◌*◌, ◌^◌, ◌≤◌, ◌<�
 use native.Mathlib.Nat.{add-zero, le_refl}
 use native.Mathlib.Numerals.{add-one}
 use native.Mathlib.Omega.{arith}
-use lib.Bits.{bit_and}
 use lib.IntN.{ℤ, pos, ◌+ℤ◌, nat_abs, +ℤ_idr}
 use lib.ListN.{length}
-use borrow.Author.Tests.{eq-eqb, ne_eqb}
 use Rattle.integer.specs.Sum.{sum_to}
 use Rattle.integer.specs.Tab.{nth, Within}
 use mir.Syntax.{w32}
@@ -38,13 +36,13 @@ module _ (mask values : ℕ) (rows : List ℤ) where
   total-room = partial-room rows (term_at mask values rows) term-small
 
   module _ (i : ℕ) where
-    pub sum-taken : bit_and i mask ≡ values → sum_to i (term_at mask values rows) +ℤ nth rows i ≡ sum_to (i + 1) (term_at mask values rows)
-    unfolding sum_to agrees
-    sum-taken e = rw (add-one, eq-eqb (bit_and i mask) values e)
+    pub sum-taken : agrees mask values i ≡ true → sum_to i (term_at mask values rows) +ℤ nth rows i ≡ sum_to (i + 1) (term_at mask values rows)
+    unfolding sum_to
+    sum-taken e = rw (add-one, e)
 
-    pub sum_left : (bit_and i mask ≡ values → ⊥) → sum_to i (term_at mask values rows) ≡ sum_to (i + 1) (term_at mask values rows)
-    unfolding sum_to agrees
-    sum_left e = rw (add-one, ne_eqb (bit_and i mask) values e) (sym (+ℤ_idr _))
+    pub sum_left : agrees mask values i ≡ false → sum_to i (term_at mask values rows) ≡ sum_to (i + 1) (term_at mask values rows)
+    unfolding sum_to
+    sum_left e = rw (add-one, e) (sym (+ℤ_idr _))
 
   -- a row that agrees, as the machine adds it
   module _ (i : ℕ) (s : ℤ) (so_far : s ≡ sum_to i (term_at mask values rows)) (few : length rows ≤ 2048) (small : Within 1000 rows) (inside : i < length rows) where
@@ -54,7 +52,7 @@ module _ (mask values : ℕ) (rows : List ℤ) where
     pub total_fits : SFits w32 (s +ℤ to_z w32 (of_z w32 (nth rows i)))
     total_fits = rw (read, so_far) (sfits-abs (omega (arith, total-room i few small inside, nat_abs-add (sum_to i (term_at mask values rows)) (nth rows i))))
 
-    pub sum-more : bit_and i mask ≡ values → to_z w32 (of_z w32 (s +ℤ to_z w32 (of_z w32 (nth rows i)))) ≡ sum_to (i + 1) (term_at mask values rows)
+    pub sum-more : agrees mask values i ≡ true → to_z w32 (of_z w32 (s +ℤ to_z w32 (of_z w32 (nth rows i)))) ≡ sum_to (i + 1) (term_at mask values rows)
     sum-more e = to_z-of_z w32 _ total_fits ∙ ap (λ (z : ℤ). s +ℤ z) read ∙ ap (λ (z : ℤ). z +ℤ nth rows i) so_far ∙ sum-taken i e
 
 pub count-le : (n : ℕ) (p : ℕ → Bool) → count_to n p ≤ n
@@ -71,10 +69,8 @@ module _ (mask values i : ℕ) where
   unfolding count_to
   count-more b e = ap (λ (c : Bool). count_to i (agrees mask values) + cond c 1 0) (sym e) ∙ ap (λ (n : ℕ). count_to n (agrees mask values)) (sym (add-one i))
 
-  pub count-taken : bit_and i mask ≡ values → count_to i (agrees mask values) + 1 ≡ count_to (i + 1) (agrees mask values)
-  unfolding agrees
-  count-taken e = count-more true (eq-eqb (bit_and i mask) values e)
+  pub count-taken : agrees mask values i ≡ true → count_to i (agrees mask values) + 1 ≡ count_to (i + 1) (agrees mask values)
+  count-taken = count-more true
 
-  pub count_left : (bit_and i mask ≡ values → ⊥) → count_to i (agrees mask values) ≡ count_to (i + 1) (agrees mask values)
-  unfolding agrees
-  count_left e = sym (add-zero _) ∙ count-more false (ne_eqb (bit_and i mask) values e)
+  pub count_left : agrees mask values i ≡ false → count_to i (agrees mask values) ≡ count_to (i + 1) (agrees mask values)
+  count_left e = sym (add-zero _) ∙ count-more false e

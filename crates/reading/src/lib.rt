@@ -3,11 +3,11 @@
 
 ghost use Rattle.std.specs.Prelude.{◌≡◌, ◌≤◌, length};
 ghost use Rattle.integer.specs.Tab.{Within};
-ghost use Rattle.reading.specs.Readings.{whole_sum, count_of, quotient, mean_of, read_as, case_of, pair_of};
+ghost use Rattle.reading.specs.Readings.{agrees, whole_sum, count_of, quotient, mean_of, read_as, case_of, pair_of};
 
 use refusals::Refusal;
 
-// A reading by its case; a constrained one has the number of fixed inputs.
+// A reading by its case; a constrained one has the number of fixed inputs. Document 01 asks for this enum, with the refusal as one of its cases: hence no `Result`.
 #[derive(Clone, Copy)]
 pub enum Reading {
     Syndrome(f64),
@@ -24,28 +24,45 @@ pub struct ReadingPair {
     pub difference: f64,
 }
 
-// The sum of the rows that have the values at the inputs of the mask.
-fn sum_of(rows: &[i32], mask: u32, values: u32) -> i32
+// The inputs that are fixed, as a mask, and their values.
+#[derive(Clone, Copy)]
+pub struct FixedInputs {
+    pub mask: u32,
+    pub values: u32,
+}
+
+impl FixedInputs {
+    // Whether the row has the values at the inputs of the mask.
+    #[tactic(auto, unfolding(crate::specs::Readings::agrees))]
+    fn agrees(self, row: u32) -> bool
+        ensures { result ≡ agrees self.mask self.values row }
+    {
+        row & self.mask == self.values
+    }
+}
+
+// The sum of the rows that agree with the fixed inputs.
+fn sum_of(rows: &[i32], fixed: FixedInputs) -> i32
     requires rows_len_bound { length rows.now ≤ 2048 }
     requires within { Within 1000 rows.now }
-    ensures { result ≡ whole_sum mask values rows.now }
+    ensures { result ≡ whole_sum fixed.mask fixed.values rows.now }
 {
     let mut sum = 0;
     for (row, value) in rows.iter().enumerate() {
-        if row as u32 & mask == values {
+        if fixed.agrees(row as u32) {
             sum += *value;
         }
     }
     sum
 }
 
-// How many they are, of `rows` rows.
-fn count_of(rows: u32, mask: u32, values: u32) -> u32
-    ensures { result ≡ count_of mask values rows }
+// How many of the first `rows` rows agree.
+fn count_of(rows: u32, fixed: FixedInputs) -> u32
+    ensures { result ≡ count_of fixed.mask fixed.values rows }
 {
     let mut count = 0;
     for row in 0..rows {
-        if row & mask == values {
+        if fixed.agrees(row) {
             count += 1;
         }
     }
@@ -60,15 +77,15 @@ fn fraction(sum: i32, count: u32) -> f64
     (sum as f64) / (count as f64)
 }
 
-// The mean of those rows: their sum by their count.
+// The mean of the rows that agree: their sum by their count.
 #[tactic(auto, unfolding(crate::specs::Readings::mean_of))]
-pub fn mean(rows: &[i32], mask: u32, values: u32) -> f64
+pub fn mean(rows: &[i32], fixed: FixedInputs) -> f64
     requires rows_len_bound { length rows.now ≤ 2048 }
     requires within { Within 1000 rows.now }
-    ensures { result ≡ mean_of mask values rows.now }
+    ensures { result ≡ mean_of fixed.mask fixed.values rows.now }
 {
-    let count = count_of(rows.len() as u32, mask, values);
-    fraction(sum_of(rows, mask, values), count)
+    let count = count_of(rows.len() as u32, fixed);
+    fraction(sum_of(rows, fixed), count)
 }
 
 // The value as a case: constrained where inputs are fixed, else a weighted sum or a plain syndrome.

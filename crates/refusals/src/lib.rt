@@ -23,7 +23,7 @@ pub enum Flaw {
     NotInputs,
 }
 
-/// Lines of a text and faults count from 1, indices in a list from 0.
+/// Why a call refuses, with the place in each case that has one: lines of a text and faults count from 1, indices in a list from 0.
 #[derive(Clone, Copy)]
 pub enum Refusal {
     TextTooLong,
@@ -51,6 +51,7 @@ impl Flaw {
         if passed { Ok(()) } else { Err(self) }
     }
 
+    /// Document 01's number of it, and document 02's.
     pub fn number(self) -> u32
         ensures { result ≡ flaw_number self }
     {
@@ -67,6 +68,7 @@ impl Flaw {
 }
 
 impl Refusal {
+    /// Document 01's number of it, and document 02's.
     pub fn number(self) -> u32
         ensures { result ≡ refusal_number self }
     {
@@ -84,6 +86,7 @@ impl Refusal {
         }
     }
 
+    /// Its place, which is 0 in document 01 where none is named.
     pub fn place(self) -> usize
         ensures { result ≡ refusal_place self }
     {

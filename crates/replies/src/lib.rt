@@ -1,5 +1,6 @@
 // The structs that the C functions return, each filled from the answer of a call: document 01's number, place and values of the answer, by the
-// definitions that the calls' own promises cite. (An exported function cannot return an enum.)
+// definitions that the calls' own promises cite. (An exported function cannot return an enum.) What an answer does not have is 0, a struct's default. The
+// conversions are alike, and not one function: each fills another struct of the C interface with values of its own, beside the number and mostly the place.
 #![tactic(auto)]
 
 ghost use Rattle.std.specs.Prelude.{◌≤◌};
@@ -12,7 +13,7 @@ use std::ops::Range;
 
 // Number 0 where the call is done.
 #[repr(C)]
-#[derive(Clone, Copy)]
+#[derive(Clone, Copy, Default)]
 pub struct Reply {
     pub number: u32,
     pub place: usize,
@@ -20,7 +21,7 @@ pub struct Reply {
 
 // The coefficient is 0 with a refusal.
 #[repr(C)]
-#[derive(Clone, Copy)]
+#[derive(Clone, Copy, Default)]
 pub struct Sum {
     pub number: u32,
     pub value: i32,
@@ -29,7 +30,7 @@ pub struct Sum {
 
 // Number 0 with a plan; label places past the size hold 0, and all are 0 with a refusal.
 #[repr(C)]
-#[derive(Clone, Copy)]
+#[derive(Clone, Copy, Default)]
 pub struct Signature {
     pub number: u32,
     pub place: usize,
@@ -39,7 +40,7 @@ pub struct Signature {
 
 // Number 0 and how many bytes were written, or number 8.
 #[repr(C)]
-#[derive(Clone, Copy)]
+#[derive(Clone, Copy, Default)]
 pub struct Written {
     pub number: u32,
     pub bytes: usize,
@@ -48,7 +49,7 @@ pub struct Written {
 // Number 0 with a reading: kind 1 a plain syndrome, 2 a weighted sum, 3 a constrained value with its number of fixed inputs, which is 0 in the
 // other kinds. With a refusal all but number and place is 0.
 #[repr(C)]
-#[derive(Clone, Copy)]
+#[derive(Clone, Copy, Default)]
 pub struct Measured {
     pub number: u32,
     pub kind: u32,
@@ -59,7 +60,7 @@ pub struct Measured {
 
 // Number 0 with the readings, which are 0 with a refusal.
 #[repr(C)]
-#[derive(Clone, Copy)]
+#[derive(Clone, Copy, Default)]
 pub struct Comparison {
     pub number: u32,
     pub place: usize,
@@ -70,7 +71,7 @@ pub struct Comparison {
 
 // A part of a lent text.
 #[repr(C)]
-#[derive(Clone, Copy)]
+#[derive(Clone, Copy, Default)]
 pub struct Part {
     pub start: usize,
     pub length: usize,
@@ -84,10 +85,7 @@ impl From<Result<(), Refusal>> for Reply {
 
     fn from(answer: Result<(), Refusal>) -> Self {
         match answer {
-            Ok(()) => Reply {
-                number: 0,
-                place: 0,
-            },
+            Ok(()) => Reply::default(),
             Err(refusal) => Reply {
                 number: refusal.number(),
                 place: refusal.place(),
@@ -105,14 +103,13 @@ impl From<Result<i32, Refusal>> for Sum {
     fn from(answer: Result<i32, Refusal>) -> Self {
         match answer {
             Ok(value) => Sum {
-                number: 0,
                 value,
-                place: 0,
+                ..Sum::default()
             },
             Err(refusal) => Sum {
                 number: refusal.number(),
-                value: 0,
                 place: refusal.place(),
+                ..Sum::default()
             },
         }
     }
@@ -127,19 +124,17 @@ impl From<Result<LabelSet, Refusal>> for Signature {
     fn from(answer: Result<LabelSet, Refusal>) -> Self {
         match answer {
             Ok(set) => {
-                let labels = set.labels;
+                let labels = set.padded();
                 Signature {
-                    number: 0,
-                    place: 0,
-                    size: set.size,
+                    size: set.labels().len(),
                     labels,
+                    ..Signature::default()
                 }
             }
             Err(refusal) => Signature {
                 number: refusal.number(),
                 place: refusal.place(),
-                size: 0,
-                labels: [0; 4],
+                ..Signature::default()
             },
         }
     }
@@ -153,10 +148,13 @@ impl From<Result<usize, Refusal>> for Written {
 
     fn from(answer: Result<usize, Refusal>) -> Self {
         match answer {
-            Ok(bytes) => Written { number: 0, bytes },
+            Ok(bytes) => Written {
+                bytes,
+                ..Written::default()
+            },
             Err(refusal) => Written {
                 number: refusal.number(),
-                bytes: 0,
+                ..Written::default()
             },
         }
     }
@@ -171,32 +169,25 @@ impl From<Reading> for Measured {
     fn from(reading: Reading) -> Self {
         match reading {
             Reading::Syndrome(value) => Measured {
-                number: 0,
                 kind: 1,
-                fixed: 0,
-                place: 0,
                 value,
+                ..Measured::default()
             },
             Reading::Weighted(value) => Measured {
-                number: 0,
                 kind: 2,
-                fixed: 0,
-                place: 0,
                 value,
+                ..Measured::default()
             },
             Reading::Constrained(value, fixed) => Measured {
-                number: 0,
                 kind: 3,
-                fixed,
-                place: 0,
                 value,
+                fixed,
+                ..Measured::default()
             },
             Reading::Refused(refusal) => Measured {
                 number: refusal.number(),
-                kind: 0,
-                fixed: 0,
                 place: refusal.place(),
-                value: 0.0,
+                ..Measured::default()
             },
         }
     }
@@ -212,24 +203,21 @@ impl From<Result<ReadingPair, Refusal>> for Comparison {
     fn from(answer: Result<ReadingPair, Refusal>) -> Self {
         match answer {
             Ok(readings) => Comparison {
-                number: 0,
-                place: 0,
                 sound: readings.sound,
                 faulty: readings.faulty,
                 difference: readings.difference,
+                ..Comparison::default()
             },
             Err(refusal) => Comparison {
                 number: refusal.number(),
                 place: refusal.place(),
-                sound: 0.0,
-                faulty: 0.0,
-                difference: 0.0,
+                ..Comparison::default()
             },
         }
     }
 }
 
-// A `From` cannot ask that the range does not end before it starts.
+// No `From`: it cannot ask that the range does not end before it starts.
 pub fn to_part(s: Range<usize>) -> Part
     requires { s.start ≤ s.end }
     ensures { GivesSpan result s }

@@ -21,7 +21,7 @@ use Rattle.devices.proofs.Descriptions.{described-proper}
 use Rattle.planner.specs.PlanCall.{Verdict, planned, verdict_of, plan_numbers}
 use Rattle.planner.specs.Demand.{Shows, Right}
 use Rattle.planner.proofs.Demanded.{right-verdict}
-use Rattle.planner.proofs.PlanLaws.{kept-four}
+use Rattle.search.proofs.SetsBySize.{kept-four}
 use Rattle.report_lines.specs.ReportLines.{label_covers, covering_label, fault_report_line}
 use Rattle.statements.specs.Lines.{fault_word}
 use Rattle.transform.specs.Spectrum.{coefficient_of}

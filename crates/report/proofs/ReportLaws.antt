@@ -32,7 +32,8 @@ use Rattle.search.specs.declared.LabelSet.{LabelSet}
 use Rattle.writing.specs.Writing.{placed, gather}
 use Rattle.writing.proofs.Writings.{length-placed, placed-more, placed-front, gather-length}
 use Rattle.planner.specs.PlanCall.{Verdict, refused, planned, searched, silent_first, verdict_of, working_numbers, plan_verdict, Planned, plan_numbers, planned_as, WorkKept}
-use Rattle.planner.proofs.PlanLaws.{kept, kept-four}
+use Rattle.search.proofs.SetsBySize.{kept-four}
+use Rattle.planner.proofs.PlanLaws.{kept}
 use Rattle.report_lines.specs.ReportLines.{plan_line, refused_line, label_line, fault_report_line, plan_lines, report_bytes}
 use Rattle.report_lines.proofs.ReportLines.{refused-length, plan-length, label-line-length, fault-line-length}
 use Rattle.report.specs.ReportCall.{verdict_lines, problem_report, report_of, short, Reported, report_answer, report_left, report_verdict, reported_as}
@@ -137,12 +138,13 @@ module _ (q : Problem) where
   refused-by r (planned labels) f e = absurd (refusal-numbered r (ap (λ (x : Planned). x.number) e))
 
   planned-by : (s : LabelSet) (v : Verdict) → LinesFit q v → planned_as (Ok s) ≡ plan_numbers v
-      → (s.size ≤ 4) × Below (2 ^ q.inputs) (take s.size s.labels) × (plan_lines q.sound q.faulted (take s.size s.labels) ≡ verdict_lines q v)
+      → (length s ≤ 4) × Below (2 ^ q.inputs) s × (plan_lines q.sound q.faulted s ≡ verdict_lines q v)
   planned-by s (refused number place) f e = let k = ap (λ (x : Planned). x.number) e in absurd (omega (arith, f.0, k))
   planned-by s (planned labels) f e =
-      let n : s.size ≡ length labels = ap (λ (x : Planned). x.size) e in
-      let l : s.labels ≡ four_of labels = ap (λ (x : Planned). x.labels) e in
-      rw (n, l) (rw (kept-four labels f.1) (f.1, f.0, refl))
+      let n : length s ≡ length labels = ap (λ (x : Planned). x.size) e in
+      let l : four_of s ≡ four_of labels = ap (λ (x : Planned). x.labels) e in
+      let same : s ≡ labels = sym (kept-four s (omega (arith, n, f.1))) ∙ ap₂ take n l ∙ kept-four labels f.1 in
+      rw same (f.1, f.0, refl)
 
 -- every report fits
 pub report-fits : (text : List ℕ) → length (report_of text) ≤ 715
@@ -178,7 +180,7 @@ module _ (text : List ℕ) (p : Problem) (is : described p ≡ description_of te
   text-unplanned r e = let b = refused-by p r (verdict_of p) fits e in (b.0, b.1 ∙ text-serves text p is)
 
   pub text-planned : (s : LabelSet) → planned_as (Ok s) ≡ plan_numbers (verdict_of p)
-      → (s.size ≤ 4) × Below (2 ^ p.inputs) (take s.size s.labels) × (plan_lines p.sound p.faulted (take s.size s.labels) ≡ report_of text)
+      → (length s ≤ 4) × Below (2 ^ p.inputs) s × (plan_lines p.sound p.faulted s ≡ report_of text)
   text-planned s e = let b = planned-by p s (verdict_of p) fits e in (b.0, b.1, b.2 ∙ text-serves text p is)
 
 -- by the lent buffers

@@ -15,7 +15,7 @@ use refusals::Refusal;
 /// Every report has at most so many bytes.
 pub const REPORT_BYTES: usize = 1024;
 
-// All lines of a plan.
+// All lines of a plan, from the front on, as `writing` does it.
 fn plan_lines(d: &Device, labels: &[u32], out: &mut [u8]) -> usize
     requires labels_low { Below (2 ^ d.now.inputs) labels.now × (length labels.now ≤ 4) }
     requires report_bytes_in_bounds { report_bytes ≤ length out.old }
@@ -45,7 +45,7 @@ fn text_lines(text: &[u8], out: &mut [u8], work: &mut [u32]) -> usize
         Err(refusal) => return report_lines::refused_line(out, refusal),
     };
     match planner::plan_device(&d, work) {
-        Ok(set) => plan_lines(&d, &set.labels[..set.size], out),
+        Ok(set) => plan_lines(&d, set.labels(), out),
         Err(refusal) => report_lines::refused_line(out, refusal),
     }
 }

@@ -1,6 +1,6 @@
 -- The lines of a report, one at a time:
 --   refused-length, refusal-length, plan-length, label-length, fault-length    how long a line is
---   refused-read, refusal-read, plan-read, label-read, fault-read    a line with its numbers as the code reads them
+--   refused-read, refusal-read, plan-read, label-read, FaultRead, fault-read    a line with its numbers as the code reads them
 --   at-spectrum, label-lines-same, covering-same    lines and first covering labels, read off the spectra
 --   covering-here, covering-later, covering-none    a search for the first covering label
 --   spectrum-left    what the spectrum leaves in a buffer of its size
@@ -228,6 +228,12 @@ spectrum-left inputs rows out {r} same count answer left =
     let done : r ≡ Done = answer ∙ rw (le-ltb (length out) (2 ^ inputs) (omega (arith, same))) in
     left ∙ ap (λ (a : Answer). leaves a s out) done ∙ ap (λ (l : List ℤ). s ++ l) (drop_of_length-le out full) ∙ append-nil s
 
+-- a fault's line with its label and coefficient as the code reads them
+abbrev pub FaultRead : Problem → List ℕ → ℕ → ℕ → List ℤ → Type 0
+FaultRead p labels f label faulted =
+    (label < 256) × (label < length faulted)
+    × (line_of fault_word (to_z w32 (f + 1) ∷ to_z w32 label ∷ to_z w32 (of_z w32 (nth faulted label)) ∷ []) ≡ fault_report_line p.sound p.faulted labels f)
+
 module _ (p : Problem) (right : Proper p) (labels : List ℕ) (low : Below (2 ^ p.inputs) labels) where
   few : 2 ^ p.inputs ≤ 256
   few = pow_mono right.inputs-high
@@ -312,8 +318,7 @@ module _ (p : Problem) (right : Proper p) (labels : List ℕ) (low : Below (2 ^ 
         value-is : nth faulted label ≡ coefficient_of F L
         value-is = ap₂ nth faulted-is covering-is ∙ at-spectrum F L (omega (arith, covering-low, long))
 
-        pub fault-read : (label < 256) × (label < length faulted)
-            × (line_of fault_word (to_z w32 (f + 1) ∷ to_z w32 label ∷ to_z w32 (of_z w32 (nth faulted label)) ∷ []) ≡ fault_report_line S p.faulted labels f)
+        pub fault-read : FaultRead p labels f label faulted
         unfolding fault_report_line
         fault-read =
             let e = ap length faulted-is ∙ length-spectrum F ∙ long in (

@@ -1,4 +1,5 @@
-// The lines of a report, one kind at a time: of a refusal, of the labels of a plan, of the faults.
+// The lines of a report, one kind at a time: of a refusal, of the labels of a plan, of the faults. Each writes as `writing` does, from index `at` on.
+// Labels come as a slice, and each function asks that they are below the length: a struct would be made of them and taken apart at once.
 #![tactic(auto)]
 
 ghost use Rattle.std.specs.Prelude.{◌≡◌, ◌+◌, ◌*◌, ◌≤◌, ◌<◌, ◌^◌, length};
@@ -38,7 +39,8 @@ pub fn label_lines(out: &mut [u8], at: usize, labels: &[u32], sound: &[i32]) -> 
     end
 }
 
-// The first of the labels at which the coefficients differ.
+// The first of the labels at which the coefficients differ; 0 where there is none, as the definition has it: the labels of a plan show every fault. (By `find`
+// two goals stay open.)
 fn first_covering(labels: &[u32], sound: &[i32], faulted: &[i32]) -> u32
     requires { Below (length sound.now) labels.now × (length faulted.now ≡ length sound.now) }
     ensures { result ≡ spectral_covering sound.now faulted.now labels.now }

@@ -1,5 +1,5 @@
 -- Sums divided by a number from 1 to 2,048:
---   quot-needs, quot_is, quot-kept, rem-zero, zero-rem    the division and the remainder as the machine has them
+--   quot_is, quot-kept, rem-zero, zero-rem         the division and the remainder as the machine has them
 --   unfit-left, unfit-whole                        of `unfit`: where something is left over, and where nothing is
 --   unfit-divides, unfit-inside                    a sum that fits divides, and its quotient is not outside
 --   first-unfit-position                                 the first unfit sum is the library's position
@@ -71,9 +71,6 @@ module _ (w : Width) (room : 2048 < 2 ^ hbits w) (z : ℤ) (d : ℕ) (h : mag z 
 
   quot_fits : SFits w (quotient_of d z)
   quot_fits = record { sfits = lt_of_le_of_lt (mag-quot d z) h }
-
-  pub quot-needs : (0 < d) × SFits w (quot_z (to_z w (of_z w z)) (to_z w d))
-  quot-needs = (few.0, subst⁻¹ (SFits w) quot_is quot_fits)
 
   pub quot-kept : to_z w (of_z w (quot_z (to_z w (of_z w z)) (to_z w d))) ≡ quotient_of d z
   quot-kept = ap (λ (y : ℤ). to_z w (of_z w y)) quot_is ∙ to_z-of_z w (quotient_of d z) quot_fits

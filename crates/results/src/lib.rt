@@ -29,41 +29,47 @@ pub fn narrow(work: &[i64], out: &mut [i32])
     ensures { out.new ≡ written work.now out.old }
 {
     for (i, &z) in work.iter().enumerate() {
+        // Each fits, so `try_from` would answer an `Err` that cannot come.
         out[i] = z as i32;
     }
 }
 
-// Whether the sum does not divide by the divisor, or its quotient is not from low to high.
-fn is_unfit(sum: i64, divisor: usize, low: i64, high: i64) -> bool
-    requires { (1 ≤ divisor) × (divisor ≤ 2048) }
-    ensures { result ≡ unfit divisor low high sum }
-{
-    let d = divisor as i64;
-    if sum % d != 0 {
-        return true;
+// A number from 1 to 2,048 that sums are divided by.
+#[derive(Clone, Copy)]
+struct Divisor {
+    number: usize,
+    ghost in_range: { (1 ≤ number) × (number ≤ 2048) },
+}
+
+impl Divisor {
+    // Whether the sum does not divide, or its quotient is not from low to high.
+    fn is_unfit(self, sum: i64, low: i64, high: i64) -> bool
+        ensures { result ≡ unfit self.number low high sum }
+    {
+        let d = self.number as i64;
+        if sum % d != 0 {
+            return true;
+        }
+        let quotient = sum / d;
+        (quotient < low) | (high < quotient)
     }
-    let quotient = sum / d;
-    (quotient < low) | (high < quotient)
-}
 
-fn first_unfit(sums: &[i64], divisor: usize, low: i64, high: i64) -> Option<usize>
-    requires { (1 ≤ divisor) × (divisor ≤ 2048) }
-    ensures { result ≡ position (unfit divisor low high) sums.now }
-{
-    sums.iter()
-        .position(|&sum| is_unfit(sum, divisor, low, high))
-}
+    fn first_unfit(self, sums: &[i64], low: i64, high: i64) -> Option<usize>
+        ensures { result ≡ position (unfit self.number low high) sums.now }
+    {
+        sums.iter().position(|&sum| self.is_unfit(sum, low, high))
+    }
 
-// Writes the quotients of the sums to the front of `out`.
-fn divide(sums: &[i64], divisor: usize, out: &mut [i32])
-    requires le_divisor { (1 ≤ divisor) × (divisor ≤ 2048) }
-    requires sums_in_bounds { length sums.now ≤ length out.old }
-    requires within { Within 2147483647 (quotients_of divisor sums.now) }
-    ensures { out.new ≡ written (quotients_of divisor sums.now) out.old }
-{
-    let d = divisor as i64;
-    for (i, &sum) in sums.iter().enumerate() {
-        out[i] = (sum / d) as i32;
+    // Writes the quotients of the sums to the front of `out`.
+    fn divide(self, sums: &[i64], out: &mut [i32])
+        requires sums_in_bounds { length sums.now ≤ length out.old }
+        requires within { Within 2147483647 (quotients_of self.number sums.now) }
+        ensures { out.new ≡ written (quotients_of self.number sums.now) out.old }
+    {
+        let d = self.number as i64;
+        for (i, &sum) in sums.iter().enumerate() {
+            out[i] = (sum / d) as i32;
+        }
     }
 }
 
@@ -82,9 +88,10 @@ pub fn divided(
     ensures value { answer_of result ≡ divided_answer divisor low high sums.now }
     ensures out_after { out.new ≡ leaves (answer_of result) (quotients_of divisor sums.now) out.old }
 {
-    if let Some(index) = first_unfit(sums, divisor, low, high) {
+    let by = Divisor { number: divisor };
+    if let Some(index) = by.first_unfit(sums, low, high) {
         return Err(Refusal::Indivisible { index });
     }
-    divide(sums, divisor, out);
+    by.divide(sums, out);
     Ok(())
 }

@@ -11,7 +11,7 @@
 --   Screened, screen-done, done-screen          what the answer Done of `screen_of` means
 --   ready_between, ready                        and what a call knows by it
 --   screen-unsized, -wrong, -outside, -short    its refusals, in their order
---   screen-not-11, screen-due                   11 is none of them, what is due counts only for right arguments
+--   screen-not-11                               11 is none of them
 --   first-passed, then-done                     tests after it; where they refuse nothing its answer stands
 use mathlib.Core.Path.{◌≡◌, refl, sym, ap, ◌∙◌, subst}
 use mathlib.Core.List.{List, [], ◌∷◌}
@@ -221,12 +221,6 @@ screen-not-11 low high test l room due = go (eqb (inputs_of (length l)) 0) test 
     go false true true c e = omega arith
     go false true false true e = omega arith
     go false true false false e = omega arith
-
--- what is due counts only where the arguments are right
-pub screen-due : (low high : ℤ) (test : Bool) (l : List ℤ) (room : ℕ) {m n : ℕ} → (test ≡ true → m ≡ n) → screen_of low high test l room m ≡ screen_of low high test l room n
-unfolding screen_of
-screen-due low high true l room e = ap (λ (due : ℕ). screen_of low high true l room due) (e refl)
-screen-due low high false l room e = refl
 
 pub ready_between : (low high : ℤ) (test : Bool) (l : List ℤ) (room due : ℕ) → screen_of low high test l room due ≡ Done → Ready (max (nat_abs low) (nat_abs high)) test l room due
 ready_between low high test l room due e =

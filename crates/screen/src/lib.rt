@@ -53,7 +53,8 @@ fn first_outside(list: &[i32], low: i32, high: i32) -> Option<usize>
     list.iter().position(|&z| is_outside(z, low, high))
 }
 
-/// The number of inputs of the list; or 9, 12 unless `right`, 10, 8 where `room` is below `due`, in this order.
+/// The number of inputs of the list; or 9, 12 unless `right`, 10, 8 where `room` is below `due`, in this order. The range is two numbers, as the definition
+/// has it: a struct would be made for each call, and taken apart by each test.
 #[tactic(auto, using(crate::proofs::Screens::screen_is), unfolding(crate::specs::Answers::screen_of))]
 pub fn screen(
     list: &[i32],

@@ -1,6 +1,7 @@
 -- The search for k places from place i on, as the loops take it:
 --   sought-end                  past the last place nothing is found
---   lacked, four-lacked, had    one place: a mask that lacks some of what is missing is passed, and so are four; one that has all is the answer
+--   lacked, passed, had         a mask that lacks some of what is missing is passed, and so are many; one that has all is the answer
+--   chunk-lacks                 masks that lack some, four at a time
 --   took, left_out              more places: place i where those after it have a set for what it leaves missing, and not where they have none
 --   size-took, size-left-out    the plan at a size that has a set, and at one that has none
 use mathlib.Core.Path.{◌≡◌, refl, sym, ap, ap₂, ◌∙◌}
@@ -9,9 +10,11 @@ use mathlib.Core.List.{List, [], ◌∷◌, ◌++◌, map}
 use mathlib.Core.Option.{Option, none, some}
 use Prim.Native.Nat.{ℕ, zero, suc, ◌+◌, ◌-◌, ◌<◌, ◌≤◌}
 use native.Mathlib.Numerals.{add-one, sub-one}
+use native.Mathlib.Nat.{lt_of_not-le}
+use native.Mathlib.Decide.{dec_le}
 use native.Mathlib.Omega.{arith}
 use lib.Dec.{eqb}
-use lib.ListN.{length, length-map, get_or, get_or-append, drop}
+use lib.ListN.{length, length-map, get_or, get_or-append, take, drop}
 use lib.Seq.{get_or-drop, drop-drop, drop-append_seam}
 use Rattle.std.proofs.lemmas.Grind.{common_steps}
 use borrow.Author.Tests.{not-true, not-false, ne_eqb}
@@ -21,7 +24,7 @@ use Rattle.search.specs.Sets.{sets_of, first_of, or_else, plan_from}
 use Rattle.std.specs.Prelude.{Option as Found, None, Some}
 use Rattle.search.specs.Sets.{four_of}
 use Rattle.search.specs.Steps.{clears, sought, labels_at, choice_of, set_at}
-use Rattle.search.proofs.SetsBySize.{first_found, sets-length, plan-step}
+use Rattle.search.proofs.SetsBySize.{first_found, sets-length, plan-step, kept-four}
 
 abbrev push : ℕ → Option (List ℕ) → Option (List ℕ)
 push i none = none
@@ -107,39 +110,38 @@ module _ (masks : List ℕ) (i : ℕ) where
             go none h = refl
             go (some is) h = cc
 
--- four places of which none has all that is missing
-pub four-lacked : (masks : List ℕ) (i m : ℕ) → i + 4 ≤ length masks → ((k : ℕ) → k < 4 → without m (get_or masks (i + k) 0) ≡ 0 → ⊥)
-    → sought masks i 1 m ≡ sought masks (i + 4) 1 m
-four-lacked masks i m h lack =
-    pass i 0 (omega arith) (omega arith)
-    ∙ pass (i + 1) 1 (omega arith) refl ∙ next (i + 1) (i + 2) (omega arith)
-    ∙ pass (i + 2) 2 (omega arith) refl ∙ next (i + 2) (i + 3) (omega arith)
-    ∙ pass (i + 3) 3 (omega arith) refl ∙ next (i + 3) (i + 4) (omega arith)
+-- places of which none has all that is missing
+pub passed : (masks : List ℕ) (m start n : ℕ) → start + n ≤ length masks → ((k : ℕ) → k < n → without m (get_or (drop start masks) k 0) ≡ 0 → ⊥)
+    → sought masks start 1 m ≡ sought masks (start + n) 1 m
+passed masks m start zero h lack = ap (λ (j : ℕ). sought masks j 1 m) (omega arith)
+passed masks m start (suc n) h lack =
+    passed masks m start n (omega arith) (λ k l. lack k (omega arith))
+    ∙ lacked masks (start + n) (omega arith) m true (rw (ne_eqb (without m (get_or masks (start + n) 0)) 0 here)) refl
+    ∙ ap (λ (j : ℕ). sought masks j 1 m) (omega arith)
   where
-    next : (j n : ℕ) → j + 1 ≡ n → sought masks (j + 1) 1 m ≡ sought masks n 1 m
-    next j n e = ap (λ (p : ℕ). sought masks p 1 m) e
+    here : without m (get_or masks (start + n) 0) ≡ 0 → ⊥
+    here z = lack n (omega arith) (ap (without m) (get_or-drop start masks n 0) ∙ z)
 
-    pass : (j k : ℕ) → k < 4 → j ≡ i + k → sought masks j 1 m ≡ sought masks (j + 1) 1 m
-    pass j k l e =
-        let none_here = λ (z : without m (get_or masks j 0) ≡ 0). lack k l (ap (λ (n : ℕ). without m (get_or masks n 0)) (sym e) ∙ z) in
-        lacked masks j (omega arith) m true (rw (ne_eqb (without m (get_or masks j 0)) 0 none_here)) refl
-
--- the next four places as a chunk of what is left
-pub chunk-passed : (masks : List ℕ) (place m : ℕ) (four rest : List ℕ) → drop place masks ≡ four ++ rest → length four ≡ 4
-    → ((k : ℕ) → k < 4 → without m (get_or four k 0) ≡ 0 → ⊥)
-    → (rest ≡ drop (place + 4) masks) × (place + 4 ≤ length masks) × (sought masks place 1 m ≡ sought masks (place + 4) 1 m)
-chunk-passed masks place m four rest e long lack = (after, inside, four-lacked masks place m inside here)
+-- the next four masks as a chunk of what is left
+pub chunk-lacks : (masks : List ℕ) (count m : ℕ) (four rest : List ℕ) → drop count masks ≡ four ++ rest → length four ≡ 4
+    → ((k : ℕ) → k < count → without m (get_or masks k 0) ≡ 0 → ⊥) → ((k : ℕ) → k < 4 → without m (get_or four k 0) ≡ 0 → ⊥)
+    → (rest ≡ drop (count + 4) masks) × (count + 4 ≤ length masks) × ((k : ℕ) → k < count + 4 → without m (get_or masks k 0) ≡ 0 → ⊥)
+chunk-lacks masks count m four rest e long before lack = (after, inside, λ k h. go k h (dec_le count k))
   where
-    inside : place + 4 ≤ length masks
+    inside : count + 4 ≤ length masks
     inside = grind (arith, common_steps, ap length e)
 
-    after : rest ≡ drop (place + 4) masks
-    after = sym (ap (drop 4) e ∙ rw (sym long) (drop-append_seam four rest)) ∙ drop-drop 4 place masks
+    after : rest ≡ drop (count + 4) masks
+    after = sym (ap (drop 4) e ∙ rw (sym long) (drop-append_seam four rest)) ∙ drop-drop 4 count masks
 
-    here : (k : ℕ) → k < 4 → without m (get_or masks (place + k) 0) ≡ 0 → ⊥
-    here k h z =
-        let same : get_or masks (place + k) 0 ≡ get_or four k 0 = sym (get_or-drop place masks k 0) ∙ ap (λ (l : List ℕ). get_or l k 0) e ∙ get_or-append four rest 0 k (omega arith) in
-        lack k h (ap (without m) (sym same) ∙ z)
+    go : (k : ℕ) → k < count + 4 → Dec (count ≤ k) → without m (get_or masks k 0) ≡ 0 → ⊥
+    go k h (no b) z = before k (lt_of_not-le b) z
+    go k h (yes a) z =
+        let back : count + (k - count) ≡ k = omega arith in
+        let same : get_or masks k 0 ≡ get_or four (k - count) 0 =
+        ap (λ (n : ℕ). get_or masks n 0) (sym back) ∙ sym (get_or-drop count masks (k - count) 0)
+        ∙ ap (λ (l : List ℕ). get_or l (k - count) 0) e ∙ get_or-append four rest 0 (k - count) (omega arith) in
+        lack (k - count) (omega arith) (ap (without m) (sym same) ∙ z)
 
 -- ---- at a size
 
@@ -154,18 +156,19 @@ module _ (masks labels : List ℕ) (m cap k : ℕ) (within : k ≤ cap) (r : Fou
   unfolding sought up_to
   found-sets = found ∙ ap (λ (n : ℕ). choice_of labels (first_of (clears masks m) (sets_of k (count 0 n)))) (omega arith)
 
-  pub size-took : (four : List ℕ) → r ≡ Some four → Some (record { size = k; labels = four }) ≡ set_at labels (plans k)
-  size-took four e =
-      go sets (λ x h. sets-length k (up_to (length masks)) x (first_found (clears masks m) (sets_of k (up_to (length masks))) x h).0) (sym e ∙ found-sets)
-      ∙ sym (ap (set_at labels) (plan-step (clears masks m) (up_to (length masks)) cap k within))
+  pub size-took : k ≤ 4 → (four : List ℕ) → r ≡ Some four → (four ≡ four_of (take k four)) × (Some (take k four) ≡ set_at labels (plans k))
+  size-took few four e =
+      let t = go sets (λ x h. sets-length k (up_to (length masks)) x (first_found (clears masks m) (sets_of k (up_to (length masks))) x h).0) (sym e ∙ found-sets) in
+      (t.0, t.1 ∙ sym (ap (set_at labels) (plan-step (clears masks m) (up_to (length masks)) cap k within)))
     where
       go : (o : Option (List ℕ)) → ((x : List ℕ) → o ≡ some x → length x ≡ k) → Some four ≡ choice_of labels o
-          → Some (record { size = k; labels = four }) ≡ set_at labels (or_else o (plans (k + 1)))
+          → (four ≡ four_of (take k four)) × (Some (take k four) ≡ set_at labels (or_else o (plans (k + 1))))
       go none sized h = cc
       go (some x) sized h =
           let same : four ≡ four_of (labels_at labels x) = cc in
-          let size : k ≡ length (labels_at labels x) = sym (length-map x (λ i. get_or labels i 0) ∙ sized x refl) in
-          ap₂ (λ (j : ℕ) (l : List ℕ). Some (record { size = j; labels = l })) size same
+          let size : length (labels_at labels x) ≡ k = length-map x (λ i. get_or labels i 0) ∙ sized x refl in
+          let front : take k four ≡ labels_at labels x = ap₂ take (sym size) same ∙ kept-four (labels_at labels x) (omega arith) in
+          (same ∙ ap four_of (sym front), ap Some front)
 
   pub size-left-out : r ≡ None → plans k ≡ plans (k + 1)
   size-left-out e = plan-step (clears masks m) (up_to (length masks)) cap k within ∙ go sets (sym e ∙ found-sets)

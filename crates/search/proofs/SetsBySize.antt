@@ -2,6 +2,7 @@
 --   first_found                        what is found is in the list and passes
 --   sets-length, sets-sub              a set of k has k entries, each of the list
 --   plan-start, plan-step, plan-end    the sizes one after the other
+--   kept-four                          the labels of a set, at the front of four
 use mathlib.Core.Path.{◌≡◌, refl, sym, ap, ◌∙◌, subst}
 use mathlib.Core.Bool.{Bool, true, false, cond}
 use mathlib.Core.Logic.{⊎_elim}
@@ -11,8 +12,8 @@ use mathlib.Core.Option.{none, some, none-ne-some, some-injective}
 use Prim.Native.Nat.{ℕ, zero, suc, ◌+◌, ◌-◌, ◌<◌, ◌≤◌}
 use native.Mathlib.Numerals.{add-one}
 use native.Mathlib.Omega.{arith}
-use lib.ListN.{length}
-use Rattle.search.specs.Sets.{sets_of, first_of, or_else, plan_from, plan_of}
+use lib.ListN.{length, take}
+use Rattle.search.specs.Sets.{sets_of, first_of, or_else, plan_from, plan_of, four_of}
 
 pub first_found : (p : List ℕ → Bool) (a : List (List ℕ)) (x : List ℕ) → first_of p a ≡ some x → Memᴰ x a × (p x ≡ true)
 unfolding first_of
@@ -60,3 +61,12 @@ module _ (p : List ℕ → Bool) (ls : List ℕ) (cap : ℕ) where
   pub plan-end : (k : ℕ) → cap < k → plan_from p ls k (cap + 1 - k) ≡ none
   unfolding plan_from
   plan-end k h = let over : cap + 1 - k ≡ 0 = omega arith in ap (plan_from p ls k) over
+
+-- a list of at most four, as it is returned
+pub kept-four : (xs : List ℕ) → length xs ≤ 4 → take (length xs) (four_of xs) ≡ xs
+kept-four [] h = refl
+kept-four (a ∷ []) h = refl
+kept-four (a ∷ b ∷ []) h = refl
+kept-four (a ∷ b ∷ c ∷ []) h = refl
+kept-four (a ∷ b ∷ c ∷ d ∷ []) h = refl
+kept-four (a ∷ b ∷ c ∷ d ∷ e ∷ xs) h = absurd (omega arith)

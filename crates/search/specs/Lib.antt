@@ -1,2 +1,3 @@
+pub mod LabelArrays
 pub mod Sets
 pub mod Steps

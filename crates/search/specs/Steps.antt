@@ -4,7 +4,6 @@ use Rattle.std.proofs.Math.Option.{Option, none, some}
 use Rattle.integer.specs.Counting.{count}
 use Rattle.integer.specs.Mask.{without, union_of}
 use Rattle.search.specs.Sets.{sets_of, first_of, four_of}
-use Rattle.search.specs.declared.LabelSet.{LabelSet}
 
 -- nothing is missing when the masks at the places are taken away
 unfoldable pub clears : List ℕ → ℕ → List ℕ → Bool
@@ -29,13 +28,14 @@ abbrev pub choice_of : List ℕ → Option (List ℕ) → Found (List ℕ)
 choice_of labels none = None
 choice_of labels (some places) = Some (four_of (labels_at labels places))
 
-abbrev pub set_of : Option (List ℕ) → Found LabelSet
+-- as the code has it
+abbrev pub set_of : Option (List ℕ) → Found (List ℕ)
 set_of none = None
-set_of (some xs) = Some (record { size = length xs; labels = four_of xs })
+set_of (some xs) = Some xs
 
 abbrev pub chosen_at : List ℕ → Option (List ℕ) → Option (List ℕ)
 chosen_at labels none = none
 chosen_at labels (some places) = some (labels_at labels places)
 
-abbrev pub set_at : List ℕ → Option (List ℕ) → Found LabelSet
+abbrev pub set_at : List ℕ → Option (List ℕ) → Found (List ℕ)
 set_at labels o = set_of (chosen_at labels o)

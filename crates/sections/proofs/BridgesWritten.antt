@@ -26,7 +26,7 @@ use Rattle.fields.proofs.PlainLines.{plain_value, fits-range}
 use Rattle.statements.specs.Items.{no_bridge}
 use Rattle.statements.specs.Lines.{bridge_word, is_fault, fault_refusal, fault_of, is_bridge, bridge_fits, inputs_rise, bridge_refusal, bridge_of, names_bridge, fault_line_refusal, fault_line_of}
 use Rattle.statements.specs.declared.Bridge.{Bridge}
-use Rattle.statements.specs.declared.Fault.{Fault}
+use Rattle.statements.specs.Items.{Fault}
 use Rattle.statements.proofs.FormsMeant.{bridge-form, bridge-named, fault-unnamed}
 use Rattle.sections.specs.FaultLines.{nth_fault_refusal, nth_stuck_refusal, stuck_line, bridge_line, fault_line, StuckFault, BridgeFault, FaultRight}
 use Rattle.sections.specs.Sections.{lines_from, lines_of}

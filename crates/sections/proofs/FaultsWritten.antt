@@ -20,7 +20,7 @@ use Rattle.writing.proofs.LineFields.{AtMost, most-small, line-longest}
 use Rattle.statements.specs.Items.{free}
 use Rattle.fields.specs.Fields.{value_at, is_line, unless}
 use Rattle.statements.specs.Lines.{fault_word, is_fault, pair_in_range, pair_fits, fault_fits, lines_exist, rises_at, lines_rise, fault_refusal, pair_at, fault_of}
-use Rattle.statements.specs.declared.Fault.{Fault}
+use Rattle.statements.specs.Items.{Fault}
 use Rattle.statements.specs.declared.Pair.{Pair}
 use Rattle.fields.proofs.Chains.{unless-passed}
 use Rattle.fields.proofs.JoinedLines.{values_from, line-ended}

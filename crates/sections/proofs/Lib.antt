@@ -1,6 +1,7 @@
 pub mod FaultsRight
 pub mod FaultsWritten
 pub mod BridgesWritten
+pub mod HandedOn
 pub mod LineLoops
 pub mod LinesDue
 pub mod LinesOnly

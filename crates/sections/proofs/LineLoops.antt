@@ -10,7 +10,7 @@ use Prim.Native.Nat.{ℕ, suc, ◌+◌, ◌-◌, ◌<◌, ◌≤◌, zero-le}
 use native.Mathlib.Nat.{sub-zero, add-zero}
 use native.Mathlib.Numerals.{add-one}
 use native.Mathlib.Omega.{arith}
-use lib.ListN.{length, take, drop, set, length-set}
+use lib.ListN.{length, take, set, length-set}
 use lib.Seq.{take-suc-set, length-take-le, take-append_seam}
 use Rattle.std.proofs.lemmas.List.{take_all}
 use borrow.Author.Tests.{ne_eqb}
@@ -21,7 +21,7 @@ use Rattle.refusals.specs.declared.Refusal.{Refusal}
 use Rattle.refusals.specs.declared.Refusal.TheVariants.{TextTooLong, Line, TextGoesOn, ShortBuffer, WrongLength, OutOfRange, Indivisible, WrongArgument, Silent, NoSet}
 use Rattle.text.specs.Text.{before, after, line_end}
 use Rattle.fields.specs.Fields.{unless}
-use Rattle.sections.specs.Sections.{Read, items, line_refused, line_refusal, lines_of, LineAt, NoLine}
+use Rattle.sections.specs.Sections.{Read, items, line_refused, line_refusal, lines_of, FirstLine, NoLine}
 
 pub flaw-some : (f : Flaw) → flaw_number f ≡ 0 → ⊥
 flaw-some Malformed e = omega arith
@@ -45,12 +45,12 @@ refusal-numbered (Silent fault) e = omega arith
 refusal-numbered NoSet e = omega arith
 
 -- the number of a line by its own tests, and of one that is missing
-module _ (refusal : List ℕ → ℕ) (text : List ℕ) (at : ℕ) where
-  pub line-number : (line : List ℕ) (next : ℕ) → LineAt text at line next → line_refusal refusal (drop at text) ≡ refusal line
+module _ (refusal : List ℕ → ℕ) (text : List ℕ) where
+  pub line-number : (line rest : List ℕ) → FirstLine text line rest → line_refusal refusal text ≡ refusal line
   unfolding unless
-  line-number line next h = rw (h.0, h.1)
+  line-number line rest h = rw (h.0, h.1)
 
-  pub missing-number : (place : ℕ) (r : Refusal) → NoLine text at place r → line_refusal refusal (drop at text) ≡ refusal_number r
+  pub missing-number : (place : ℕ) (r : Refusal) → NoLine text place r → line_refusal refusal text ≡ refusal_number r
   unfolding unless
   missing-number place r h = rw (h.0, h.1)
 
@@ -69,21 +69,21 @@ module _ {A : Type 0} (refusal : ℕ → List ℕ → ℕ) (item : List ℕ → 
   unfolding lines_of
   no_lines left place rest read e = rw e
 
-  -- j lines of `count` are read, and the next begins at `at`
-  pub record ReadSoFar (text : List ℕ) (from first count : ℕ) (l : List A) (j at : ℕ) : Type 0 where
+  -- j lines of `count` are read, and `rest` stands after them
+  pub record ReadSoFar (text : List ℕ) (first count : ℕ) (l : List A) (j : ℕ) (rest : List ℕ) : Type 0 where
     pub within : j ≤ count
     pub size : length l ≡ count
-    pub same : lines_of refusal item count first (drop from text) [] ≡ lines_of refusal item (count - j) (first + j) (drop at text) (take j l)
+    pub same : lines_of refusal item count first text [] ≡ lines_of refusal item (count - j) (first + j) rest (take j l)
 
-  pub begun : (text : List ℕ) (from first : ℕ) (l : List A) → ReadSoFar text from first (length l) l 0 from
-  begun text from first l = record { within = zero-le; size = refl; same = rw (sub-zero, add-zero) }
+  pub begun : (text : List ℕ) (first : ℕ) (l : List A) → ReadSoFar text first (length l) l 0 text
+  begun text first l = record { within = zero-le; size = refl; same = rw (sub-zero, add-zero) }
 
-module _ {A : Type 0} {refusal : ℕ → List ℕ → ℕ} {item : List ℕ → A} {text : List ℕ} {from first count : ℕ} {l : List A} {j at : ℕ} (inv : ReadSoFar refusal item text from first count l j at) where
-  pub finished : count ≤ j → items l (drop at text) ≡ lines_of refusal item count first (drop from text) []
+module _ {A : Type 0} {refusal : ℕ → List ℕ → ℕ} {item : List ℕ → A} {text : List ℕ} {first count : ℕ} {l : List A} {j : ℕ} {rest : List ℕ} (inv : ReadSoFar refusal item text first count l j rest) where
+  pub finished : count ≤ j → items l rest ≡ lines_of refusal item count first text []
   finished h =
       let e : j ≡ length l = omega (arith, inv.within, inv.size) in
       let z : count - j ≡ 0 = omega arith in
-      sym (inv.same ∙ no_lines refusal item (count - j) (first + j) (drop at text) (take j l) z ∙ ap (λ (m : List A). items m (drop at text)) (ap (λ (n : ℕ). take n l) e ∙ take_all (length l) l (omega arith)))
+      sym (inv.same ∙ no_lines refusal item (count - j) (first + j) rest (take j l) z ∙ ap (λ (m : List A). items m rest) (ap (λ (n : ℕ). take n l) e ∙ take_all (length l) l (omega arith)))
 
   module _ (more : j < count) where
     got : length (take j l) ≡ j
@@ -92,29 +92,28 @@ module _ {A : Type 0} {refusal : ℕ → List ℕ → ℕ} {item : List ℕ → 
     left : count - j ≡ suc (count - (j + 1))
     left = omega arith
 
-    stop : (number : ℕ) → line_refusal (refusal j) (drop at text) ≡ number → (number ≡ 0 → ⊥) → line_refused number (first + j) ≡ lines_of refusal item count first (drop from text) []
+    stop : (number : ℕ) → line_refusal (refusal j) rest ≡ number → (number ≡ 0 → ⊥) → line_refused number (first + j) ≡ lines_of refusal item count first text []
     stop number by n =
         sym (
         inv.same
-        ∙ ap (λ (k : ℕ). lines_of refusal item k (first + j) (drop at text) (take j l)) left
-        ∙ line-refused refusal item (count - (j + 1)) (first + j) (drop at text) (take j l) number (ap (λ (k : ℕ). line_refusal (refusal k) (drop at text)) got ∙ by) n
+        ∙ ap (λ (k : ℕ). lines_of refusal item k (first + j) rest (take j l)) left
+        ∙ line-refused refusal item (count - (j + 1)) (first + j) rest (take j l) number (ap (λ (k : ℕ). line_refusal (refusal k) rest) got ∙ by) n
         )
 
-    pub missing : (r : Refusal) → NoLine text at (first + j) r → line_refused (refusal_number r) (refusal_place r) ≡ lines_of refusal item count first (drop from text) []
-    missing r h = ap (line_refused (refusal_number r)) h.2 ∙ stop (refusal_number r) (missing-number (refusal j) text at (first + j) r h) (λ z. omega (arith, h.1))
+    pub missing : (r : Refusal) → NoLine rest (first + j) r → line_refused (refusal_number r) (refusal_place r) ≡ lines_of refusal item count first text []
+    missing r h = ap (line_refused (refusal_number r)) h.2 ∙ stop (refusal_number r) (missing-number (refusal j) rest (first + j) r h) (λ z. omega (arith, h.1))
 
-    module _ {line : List ℕ} (next : ℕ) (here : LineAt text at line next) where
-      pub declined : (r : Refusal) → refusal_number r ≡ refusal j line → refusal_place r ≡ first + j → line_refused (refusal_number r) (refusal_place r) ≡ lines_of refusal item count first (drop from text) []
-      declined r e p = ap (line_refused (refusal_number r)) p ∙ stop (refusal_number r) (line-number (refusal j) text at line next here ∙ sym e) (refusal-numbered r)
+    module _ {line after-line : List ℕ} (here : FirstLine rest line after-line) where
+      pub declined : (r : Refusal) → refusal_number r ≡ refusal j line → refusal_place r ≡ first + j → line_refused (refusal_number r) (refusal_place r) ≡ lines_of refusal item count first text []
+      declined r e p = ap (line_refused (refusal_number r)) p ∙ stop (refusal_number r) (line-number (refusal j) rest line after-line here ∙ sym e) (refusal-numbered r)
 
-      pub turned : {x : A} → refusal j line ≡ 0 → x ≡ item line → ReadSoFar refusal item text from first count (set l j x) (j + 1) next
+      pub turned : {x : A} → refusal j line ≡ 0 → x ≡ item line → ReadSoFar refusal item text first count (set l j x) (j + 1) after-line
       turned {x} z is =
           let h : j < length l = omega (arith, inv.size) in
-          let rest = drop at text in
           let taken : take j l ++ (item (before line_end rest) ∷ []) ≡ take (j + 1) (set l j x)
           = ap (λ (y : A). take j l ++ (y ∷ [])) (ap item (sym here.1) ∙ sym is) ∙ sym (take-suc-set l j x h) ∙ ap (λ (k : ℕ). take k (set l j x)) (sym (add-one j)) in
           let p : suc (first + j) ≡ first + (j + 1) = omega arith in
-          let passes : line_refusal (refusal (length (take j l))) rest ≡ 0 = ap (λ (k : ℕ). line_refusal (refusal k) rest) got ∙ line-number (refusal j) text at line next here ∙ z in
+          let passes : line_refusal (refusal (length (take j l))) rest ≡ 0 = ap (λ (k : ℕ). line_refusal (refusal k) rest) got ∙ line-number (refusal j) rest line after-line here ∙ z in
           record {
             within = omega arith;
             size = length-set l j x ∙ inv.size;
@@ -123,7 +122,7 @@ module _ {A : Type 0} {refusal : ℕ → List ℕ → ℕ} {item : List ℕ → 
                 ∙ ap (λ (k : ℕ). lines_of refusal item k (first + j) rest (take j l)) left
                 ∙ line_read refusal item (count - (j + 1)) (first + j) rest (take j l) passes
                 ∙ ap₂ (λ (k : ℕ) (t : List ℕ). lines_of refusal item (count - (j + 1)) k t (take j l ++ (item (before line_end rest) ∷ []))) p (sym here.2)
-                ∙ ap (lines_of refusal item (count - (j + 1)) (first + (j + 1)) (drop next text)) taken;
+                ∙ ap (lines_of refusal item (count - (j + 1)) (first + (j + 1)) after-line) taken;
           }
 
 -- a call on the first `count` of an array

@@ -4,7 +4,7 @@
 use Rattle.std.specs.Prelude.{ℕ, zero, suc, ◌<◌, ◌≤◌, cond, List, [], ◌∷◌, ◌++◌, eqb, get_or, ℤ, pos, ◌⊎◌, ◌≡◌}
 use Rattle.writing.specs.Writing.{line_of}
 use Rattle.statements.specs.Lines.{fault_word, bridge_word, fault_refusal, fault_line_refusal}
-use Rattle.statements.specs.declared.Fault.{Fault}
+use Rattle.statements.specs.Items.{Fault}
 use Rattle.statements.specs.declared.Pair.{Pair}
 use Rattle.statements.specs.Items.{free, no_bridge, sound}
 

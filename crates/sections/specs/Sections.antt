@@ -1,7 +1,7 @@
 -- Lines of one kind, one after the other: what they say with the text that follows them, or the first refusal with its place (document 01, "What is
 -- returned"): "Text: 1 first, then line by line" "Place is a line of the text (from 1)".
-use Rattle.std.specs.Prelude.{◌≡◌, ℕ, zero, suc, true, false, cond, List, [], ◌∷◌, ◌++◌, eqb, length, drop, get_or, Result}
-use Rattle.refusals.specs.Refusals.{refusal_number, refusal_place, told}
+use Rattle.std.specs.Prelude.{◌≡◌, ℕ, zero, suc, true, false, cond, List, [], ◌∷◌, ◌++◌, eqb, length, get_or}
+use Rattle.refusals.specs.Refusals.{refusal_number, refusal_place}
 use Rattle.refusals.specs.declared.Refusal.{Refusal}
 use Rattle.text.specs.Text.{before, after, has_byte, line_end}
 use Rattle.fields.specs.Fields.{unless}
@@ -11,14 +11,13 @@ use Rattle.writing.specs.Writing.{gather}
 abbrev pub line_refusal : (List ℕ → ℕ) → List ℕ → ℕ
 line_refusal refusal rest = unless (has_byte line_end rest) 2 (refusal (before line_end rest))
 
--- a line that begins at `at`, and where the next one begins
-abbrev pub LineAt : List ℕ → ℕ → List ℕ → ℕ → Type 0
-LineAt text at line next =
-    (has_byte line_end (drop at text) ≡ true) × (line ≡ before line_end (drop at text)) × (drop next text ≡ after line_end (drop at text))
+-- the first line, and what stands after it
+abbrev pub FirstLine : List ℕ → List ℕ → List ℕ → Type 0
+FirstLine text line rest = (has_byte line_end text ≡ true) × (line ≡ before line_end text) × (rest ≡ after line_end text)
 
 -- there is none
-abbrev pub NoLine : List ℕ → ℕ → ℕ → Refusal → Type 0
-NoLine text at place r = (has_byte line_end (drop at text) ≡ false) × (refusal_number r ≡ 2) × (refusal_place r ≡ place)
+abbrev pub NoLine : List ℕ → ℕ → Refusal → Type 0
+NoLine text place r = (has_byte line_end text ≡ false) × (refusal_number r ≡ 2) × (refusal_place r ≡ place)
 
 -- what lines say, with the text that follows them; or a refusal's number and place
 pub data Read (A : Type 0) : Type 0 where
@@ -33,10 +32,6 @@ lines_of refusal item (suc left) place rest read =
     cond (eqb (line_refusal (refusal (length read)) rest) 0)
     (lines_of refusal item left (suc place) (after line_end rest) (read ++ (item (before line_end rest) ∷ [])))
     (line_refused (line_refusal (refusal (length read)) rest) place)
-
--- what a call answers that reads them: where the next line begins, with the items that it has stored, or a refusal
-abbrev pub lines_answer : {A : Type 0} → List ℕ → List A → Result ℕ Refusal → Read A
-lines_answer text l result = told (λ at. items l (drop at text)) line_refused result
 
 -- the text after its first k lines
 unfoldable pub lines_from : ℕ → List ℕ → List ℕ

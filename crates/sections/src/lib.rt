@@ -1,12 +1,12 @@
 // Lines of one kind, one after the other, and the kind of fault lines. The definitions and laws beside them are over lines of any kind too.
 #![tactic(auto)]
 
-ghost use Rattle.std.specs.Prelude.{◌≡◌, ◌+◌, ◌≤◌, ℕ, List, [], drop, length, MatchResult};
-ghost use Rattle.refusals.specs.Refusals.{Says};
+ghost use Rattle.std.specs.Prelude.{◌≡◌, ◌+◌, ◌≤◌, ℕ, List, [], length, MatchResult};
+ghost use Rattle.refusals.specs.Refusals.{Says, told};
 ghost use Rattle.text.specs.Text.{text_bytes};
 ghost use Rattle.statements.specs.Lines.{fault_line_of};
 ghost use Rattle.sections.specs.FaultLines.{nth_fault_refusal, fault_numbered};
-ghost use Rattle.sections.specs.Sections.{lines_of, lines_answer, LineAt, NoLine};
+ghost use Rattle.sections.specs.Sections.{items, line_refused, lines_of, FirstLine, NoLine};
 
 use refusals::{Flaw, Refusal};
 use statements::Fault;
@@ -25,41 +25,40 @@ pub trait LineKind {
         ensures { Says result (refusal self.now before line.now) (item self.now line.now) };
 }
 
-/// The line that begins at `at`, without its end, and where the next one begins; it is line `place` of the text.
-pub fn line_at(text: &[u8], at: usize, place: usize) -> Result<(&[u8], usize), Refusal>
-    ensures { MatchResult result (λ r. LineAt text.now at r.0.now r.1) (λ e. NoLine text.now at place e) }
+/// The first line, without its end, and what stands after it; it is line `place` of the text.
+pub fn first_line(text: &[u8], place: usize) -> Result<(&[u8], &[u8]), Refusal>
+    ensures { MatchResult result (λ r. FirstLine text.now r.0.now r.1.now) (λ e. NoLine text.now place e) }
 {
-    let end = text::find(text, at, b'\n');
+    let end = text::find(text, 0, b'\n');
     if text.len() <= end {
         return Err(Refusal::Line {
             flaw: Flaw::Malformed,
             line: place,
         });
     }
-    Ok((&text[at..end], end + 1))
+    Ok((&text[..end], &text[end + 1..]))
 }
 
-/// As many lines as there are items, from `from` on, the first of which is line `place` of the text; and where the next one begins.
-pub fn read_lines<K: LineKind>(
+/// As many lines as there are items, the first of which is line `place` of the text; and what stands after them.
+pub fn read_lines<'a, K: LineKind>(
     kind: &K,
-    text: &[u8],
-    from: usize,
+    text: &'a [u8],
     place: usize,
-    items: &mut [K::Item],
-) -> Result<usize, Refusal>
-    requires { length items.old + place ≤ text_bytes }
-    ensures { lines_answer text.now items.new result ≡ lines_of (K.refusal kind.now) (K.item kind.now) (length items.old) place (drop from text.now) [] }
+    out: &mut [K::Item],
+) -> Result<&'a [u8], Refusal>
+    requires { length out.old + place ≤ text_bytes }
+    ensures { told (λ rest. items out.new rest.now) line_refused result ≡ lines_of (K.refusal kind.now) (K.item kind.now) (length out.old) place text.now [] }
 {
-    let mut at = from;
-    for (j, item) in items.iter_mut().enumerate() {
-        let (line, next) = line_at(text, at, place + j)?;
+    let mut rest = text;
+    for (j, item) in out.iter_mut().enumerate() {
+        let (line, after) = first_line(rest, place + j)?;
         *item = kind.read(j, line).map_err(|flaw| Refusal::Line {
             flaw,
             line: place + j,
         })?;
-        at = next;
+        rest = after;
     }
-    Ok(at)
+    Ok(rest)
 }
 
 /// The fault lines of a text of so many inputs whose last line that may be stuck is `top`.
@@ -81,7 +80,7 @@ impl LineKind for FaultLines {
     }
 }
 
-/// Fault `number`, from 1; the fault that names no line for 0.
+/// Fault `number`, from 1, and the fault that names no line for 0, as document 01 numbers them.
 pub fn fault_at(faults: &[Fault], number: usize) -> Fault
     requires { number ≤ length faults.now }
     ensures { result ≡ fault_numbered faults.now number }

@@ -16,6 +16,7 @@ fn written(text: &[u8], out: &mut [u8], work: &mut [u32]) -> usize
     requires { (report_bytes ≤ length out.old) × (working_numbers ≤ length work.old) }
     ensures { IsPrefixLen result out.new × (take result out.new ≡ report_of text.now) }
 {
+    // There is room, so it is Ok.
     report::report(text, out, work).unwrap_or(0)
 }
 
@@ -79,7 +80,8 @@ fn read_some(rt: &HostRuntime, rest: &mut [u8]) -> usize
     }
 }
 
-// Reads until the input ends or `text` is full.
+// Reads until the input ends or `text` is full. No `for`: how many bytes a read brings is not known before. (`vectors` has such a loop too: it tells nobody
+// of a read that fails.)
 fn read_text(rt: &HostRuntime, text: &mut [u8]) -> usize
     ensures { IsPrefixLen result text.new }
 {

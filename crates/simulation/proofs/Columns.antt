@@ -20,10 +20,9 @@ use lib.Seq.{get_or-append_seam, length-take-le, take-length}
 use Rattle.integer.specs.Tab.{tab}
 use Rattle.netlist.specs.Circuits.{Netlist}
 use Rattle.netlist.specs.WellFormed.{WellFormed}
-use Rattle.gate_lines.specs.GateItems.{no_gate, lines_read, GateRight}
+use Rattle.gate_lines.specs.GateItems.{Gate, no_gate, lines_read, GateRight}
 use Rattle.statements.specs.declared.Bridge.{Bridge}
-use Rattle.statements.specs.declared.Fault.{Fault}
-use Rattle.gate_lines.specs.declared.Gate.{Gate}
+use Rattle.statements.specs.Items.{Fault}
 use Rattle.columns.specs.Shown.{shown, applied, joins, applied_under}
 use Rattle.gates.specs.Gates.{gate_value}
 use Rattle.columns.specs.Steps.{shown_at, seen_as, Columned, input_rule}

@@ -15,9 +15,8 @@ use Rattle.integer.proofs.Tabs.{get_or-tab}
 use Rattle.evaluation.proofs.Widths.{reads-below, map_below}
 use Rattle.netlist.specs.Circuits.{Netlist}
 use Rattle.netlist.specs.WellFormed.{WellFormed}
-use Rattle.gate_lines.specs.GateItems.{no_gate, lines_read}
-use Rattle.statements.specs.declared.Fault.{Fault}
-use Rattle.gate_lines.specs.declared.Gate.{Gate}
+use Rattle.gate_lines.specs.GateItems.{no_gate, lines_read, Gate}
+use Rattle.statements.specs.Items.{Fault}
 use Rattle.columns.specs.Shown.{shown, applied_under}
 use Rattle.gates.specs.Gates.{gate_value}
 use Rattle.simulation.specs.Rows.{input_shown, input_values, reads, gate_in, gate_next, gates_next, line_values}

@@ -5,19 +5,17 @@ use mathlib.Core.Path.{◌≡◌, refl, sym, ap, ◌∙◌}
 use mathlib.Core.Bool.{Bool}
 use mathlib.Core.List.{List, [], ◌∷◌, ◌++◌}
 use Prim.Native.Nat.{ℕ, ◌+◌, ◌≤◌, ◌<◌}
-use native.Mathlib.Nat.{min-le_left}
 use native.Mathlib.Numerals.{add-one}
 use native.Mathlib.Omega.{arith}
-use lib.ListN.{length, take, get_or, length-append, length-take}
+use lib.ListN.{length, take, get_or, length-append}
 use lib.Seq.{take-suc}
 use Rattle.integer.specs.Tab.{tab}
 use Rattle.integer.proofs.Tabs.{length-tab}
 use Rattle.netlist.specs.Circuits.{Netlist}
 use Rattle.netlist.specs.WellFormed.{WellFormed}
 use Rattle.columns.specs.Shown.{shown}
-use Rattle.gate_lines.specs.GateItems.{no_gate}
-use Rattle.statements.specs.declared.Fault.{Fault}
-use Rattle.gate_lines.specs.declared.Gate.{Gate}
+use Rattle.gate_lines.specs.GateItems.{no_gate, Gate}
+use Rattle.statements.specs.Items.{Fault}
 use Rattle.simulation.specs.Rows.{input_shown, input_values, gate_in, gate_next, gates_next, line_values}
 
 module _ (f : Fault) (x : ℕ) where

@@ -19,7 +19,7 @@ use Rattle.integer.proofs.Tabs.{length-tab, get_or-tab}
 use Rattle.netlist.specs.Circuits.{Netlist}
 use Rattle.netlist.specs.WellFormed.{WellFormed}
 use Rattle.statements.specs.Items.{no_output}
-use Rattle.statements.specs.declared.Fault.{Fault}
+use Rattle.statements.specs.Items.{Fault}
 use Rattle.simulation.specs.Rows.{weighed, output_term, line_values, row_value, rows_of, reads}
 
 pub weighed-le : (B : ℕ) (shows : Bool) (z : ℤ) → nat_abs z ≤ B → nat_abs (weighed shows z) ≤ B

@@ -1,5 +1,4 @@
 -- The value of a row as the code adds it up, and the rows as it writes them:
---   weight-small, weight-widens, weight-kept    a weight of 16 bits in 32
 --   sum_room, sum_more, sum-small    a loop that adds up terms within 32,768: one turn
 --   row_of, rows-read      the sum of what the code reads is the row's value; so are all of them
 --   row-count-few               there are at most 256 rows
@@ -10,40 +9,24 @@ use Prim.Native.Nat.{ℕ, ◌+◌, ◌*◌, ◌^◌, ◌≤◌, ◌<◌}
 use native.Mathlib.Numerals.{add-one}
 use native.Mathlib.Omega.{arith}
 use lib.IntN.{ℤ, ◌+ℤ◌, nat_abs}
-use lib.ListN.{length, take, get_or}
+use lib.ListN.{length, get_or}
 use lib.Pow.{pow_mono}
-use lib.Seq.{get_or-take, length-take-le}
-use lib.Signed.{nat_abs-le}
-use mir.Syntax.{w16, w32}
+use mir.Syntax.{w32}
 use mir.Val.{SFits, to_z, of_z}
 use mir.ValLaws.{to_z-of_z}
 use Rattle.integer.specs.Sum.{sum_to}
 use Rattle.integer.specs.Tab.{tab}
 use Rattle.integer.proofs.Bounds.{nat_abs-add, sfits-abs}
-use Rattle.integer.proofs.Machine.{widens, recast}
 use Rattle.integer.proofs.Sums.{sum-ext}
 use Rattle.integer.proofs.Tabs.{tab-ext}
 use Rattle.netlist.specs.Circuits.{Netlist}
 use Rattle.netlist.specs.WellFormed.{WellFormed}
 use Rattle.statements.specs.Items.{no_output}
-use Rattle.statements.specs.declared.Fault.{Fault}
+use Rattle.statements.specs.Items.{Fault}
 use Rattle.simulation.specs.Rows.{output_term, line_values, row_value, rows_of}
 use Rattle.simulation.specs.Steps.{Columns, read_term, read_sum}
 use Rattle.simulation.proofs.Columns.{slot-shows}
 use Rattle.simulation.proofs.LineValues.{lines-few}
-
-module _ (z : ℤ) (fits : SFits w16 z) where
-  pub weight-small : nat_abs z ≤ 32768
-  weight-small = nat_abs-le z fits.sfits
-
-  weight-fits : SFits w32 z
-  weight-fits = let h = weight-small in sfits-abs (omega arith)
-
-  pub weight-widens : SFits w32 (to_z w16 (of_z w16 z))
-  weight-widens = widens w16 w32 z fits weight-fits
-
-  pub weight-kept : to_z w32 (of_z w32 (to_z w16 (of_z w16 z))) ≡ z
-  weight-kept = recast w16 w32 z fits weight-fits
 
 module _ (t : ℕ → ℤ) (k : ℕ) (z : ℤ) where
   pub sum_more : z ≡ t k → sum_to k t +ℤ z ≡ sum_to (k + 1) t

@@ -13,7 +13,7 @@ use borrow.Author.Tests.{eq-eqb, ne_eqb}
 use Rattle.sections.specs.FaultLines.{Above, StuckFault, BridgeFault}
 use Rattle.sections.proofs.FaultsRight.{free-line}
 use Rattle.statements.specs.Items.{no_bridge, sound}
-use Rattle.statements.specs.declared.Fault.{Fault}
+use Rattle.statements.specs.Items.{Fault}
 use Rattle.columns.specs.Shown.{stuck_or, shown, applied, joins}
 use Rattle.columns.proofs.AppliedInputs.{applied-joined, applied-apart, applied-unbridged}
 use Rattle.simulation.specs.Rows.{input_shown}

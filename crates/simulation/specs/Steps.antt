@@ -7,7 +7,7 @@ use Rattle.std.specs.Prelude.{ℕ, ◌-◌, ◌<◌, Bool, cond, List, ◌≡◌
 use Rattle.integer.specs.Sum.{sum_to}
 use Rattle.statements.specs.Items.{no_output}
 use Rattle.statements.specs.declared.Bridge.{Bridge}
-use Rattle.statements.specs.declared.Fault.{Fault}
+use Rattle.statements.specs.Items.{Fault}
 use Rattle.statements.specs.declared.Output.{Output}
 use Rattle.columns.specs.Shown.{joins}
 use Rattle.columns.specs.Steps.{shown_at}

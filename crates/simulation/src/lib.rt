@@ -7,53 +7,65 @@ ghost use Rattle.integer.specs.Tab.{tab};
 ghost use Rattle.simulation.specs.Rows.{line_values, weighed, rows_of};
 ghost use Rattle.simulation.specs.Steps.{Columns, input_lines, row_bit_of, source_of, slot_of, read_sum};
 
-use columns::Seen;
+use columns::{Column, Seen, Values};
 use netlist::Circuit;
-use statements::{Bridge, Fault, Output};
+use statements::{Fault, FaultKind, Output};
 
-// Which bit of a row an input is; past the last input a bit that no row has.
+// Which bit of a row an input is; past the last input a bit that no row has, since `rows` promises its equation for every fault.
 #[tactic(auto, unfolding(crate::specs::Steps::row_bit_of))]
 fn row_bit(input: u16) -> usize
+    requires { 1 ≤ input }
     ensures { (result ≡ row_bit_of input) × (result ≤ 8) }
 {
-    if input == 0 {
-        return 0;
-    }
-    if input < 9 { (input - 1) as usize } else { 8 }
+    usize::from(input.min(9) - 1)
 }
 
-// The bit that input i, from 0, gets for one of the bridge's inputs: that input's where the bridge joins i, else its own.
+// The bits whose AND input i, from 0, gets: those of the bridge's inputs where a bridge joins it, else its own twice.
 #[tactic(auto, unfolding(crate::specs::Steps::source_of))]
-fn source(b: Bridge, i: usize, input: u16) -> usize
+fn sources(f: Fault, i: usize) -> (usize, usize)
     requires { i < 8 }
-    ensures { (result ≡ source_of b i input) × (result ≤ 8) }
+    ensures first { (result.0 ≡ source_of f.bridge i f.bridge.first) × (result.0 ≤ 8) }
+    ensures second { (result.1 ≡ source_of f.bridge i f.bridge.second) × (result.1 ≤ 8) }
 {
     let line = i + 1;
-    let joined = (b.first as usize == line) | (b.second as usize == line);
-    if joined { row_bit(input) } else { i }
+    match f.kind {
+        FaultKind::Bridged(b) if (b.first as usize == line) | (b.second as usize == line) => {
+            (row_bit(b.first), row_bit(b.second))
+        }
+        _ => (i, i),
+    }
 }
 
 // The columns of the inputs.
-fn input_columns(values: &mut [bool], f: Fault, inputs: usize, n: usize)
-    requires { (length values.old ≡ 14848) × (inputs ≤ 8) × (n ≤ 256) × Columns values.old n (input_lines f 0) }
+fn input_columns(values: &mut Values, f: Fault, inputs: usize, n: usize)
+    requires { (inputs ≤ 8) × (n ≤ 256) × Columns values.old n (input_lines f 0) }
     ensures { Columns values.new n (input_lines f inputs) }
 {
     for i in 0..inputs {
-        let p = source(f.bridge, i, f.bridge.first);
-        let q = source(f.bridge, i, f.bridge.second);
-        columns::input_column(values, i, p, q, Seen::through(f, i + 1), n);
+        let (p, q) = sources(f, i);
+        let column = Column {
+            line: i + 1,
+            seen: Seen::through(f, i + 1),
+            rows: n,
+        };
+        columns::input_column(values, column, p, q);
     }
 }
 
 // The columns of the gates, after those of the inputs.
-fn gate_columns(values: &mut [bool], c: &Circuit, f: Fault, n: usize)
-    requires { (length values.old ≡ 14848) × (n ≤ 256) × Columns values.old n (input_lines f c.now.inputs) }
+fn gate_columns(values: &mut Values, c: &Circuit, f: Fault, n: usize)
+    requires { (n ≤ 256) × Columns values.old n (input_lines f c.now.inputs) }
     ensures { Columns values.new n (line_values c.now f) }
 {
     let inputs = c.inputs();
     for (j, gate) in c.gates().iter().enumerate() {
         let line = inputs + j + 1;
-        evaluation::gate_column(values, *gate, line, Seen::through(f, line), n);
+        let column = Column {
+            line,
+            seen: Seen::through(f, line),
+            rows: n,
+        };
+        evaluation::gate_column(values, *gate, column);
     }
 }
 
@@ -63,7 +75,7 @@ fn weigh(shows: bool, weight: i16) -> i32
     if shows { i32::from(weight) } else { 0 }
 }
 
-// Where a line's column is read: past the last line there is one column more, which is always false.
+// Where a line's column is read: past the last line there is one column more, which is always false, as the definition has it of an output of no line.
 #[tactic(auto, unfolding(crate::specs::Steps::slot_of))]
 fn slot(line: u16) -> usize
     ensures { (result ≡ slot_of line) × (result ≤ 57) }
@@ -72,8 +84,8 @@ fn slot(line: u16) -> usize
 }
 
 // The row's value: the sum of the weights of the outputs that show 1.
-fn row_value(values: &[bool], outputs: &[Output], x: usize) -> i32
-    requires { (length values.now ≡ 14848) × (length outputs.now ≤ 4) × (x < 256) }
+fn row_value(values: &Values, outputs: &[Output], x: usize) -> i32
+    requires { (length outputs.now ≤ 4) × (x < 256) }
     ensures { result ≡ read_sum values.now outputs.now x }
 {
     let mut sum: i32 = 0;
@@ -85,8 +97,8 @@ fn row_value(values: &[bool], outputs: &[Output], x: usize) -> i32
 }
 
 // Every row's value.
-fn row_values(values: &[bool], outputs: &[Output], out: &mut [i32])
-    requires { (length values.now ≡ 14848) × (length outputs.now ≤ 4) × (length out.old ≤ 256) }
+fn row_values(values: &Values, outputs: &[Output], out: &mut [i32])
+    requires { (length outputs.now ≤ 4) × (length out.old ≤ 256) }
     ensures { out.new ≡ tab (length out.old) (read_sum values.now outputs.now) }
 {
     for (x, row) in out.iter_mut().enumerate() {

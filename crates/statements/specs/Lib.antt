@@ -1,3 +1,4 @@
+pub mod FaultKinds
 pub mod Items
 pub mod LineForms
 pub mod Lines

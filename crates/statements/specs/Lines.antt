@@ -6,7 +6,7 @@ use Rattle.std.specs.Prelude.{ℕ, suc, ◌-◌, Bool, cond, ◌&&◌, ◌||◌,
 use Rattle.text.specs.Text.{bytes_of, field_of, field_count, same_bytes}
 use Rattle.fields.specs.Fields.{fits, in_range, is_line, unless, value_at}
 use Rattle.statements.specs.Items.{free, no_bridge}
-use Rattle.statements.specs.declared.Fault.{Fault}
+use Rattle.statements.specs.Items.{Fault}
 use Rattle.statements.specs.declared.Head.{Head}
 use Rattle.statements.specs.declared.Output.{Output}
 use Rattle.statements.specs.declared.Pair.{Pair}

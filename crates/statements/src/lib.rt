@@ -8,10 +8,11 @@ ghost use Rattle.std.specs.Prelude.{◌&&◌, ◌≡◌, suc, true, eqb, ◌≤�
 ghost use Rattle.text.specs.Text.{field_count};
 ghost use Rattle.fields.specs.Fields.{in_range, value_at};
 ghost use Rattle.refusals.specs.Refusals.{Says};
-ghost use Rattle.statements.specs.Items.{free};
+ghost use Rattle.statements.specs.Items.{Fault};
 ghost use Rattle.statements.specs.Lines.{head_refusal, head_of, output_refusal, output_of, is_fault, fault_refusal, fault_of, bridge_refusal, bridge_of, fault_line_refusal, fault_line_of};
 
 use refusals::Flaw;
+use std::marker::Model;
 
 // The weight is kept in a signed type, since fixtures may come to subtract outputs.
 #[derive(Clone, Copy)]
@@ -20,27 +21,50 @@ pub struct Output {
     pub weight: i16,
 }
 
-// LINE,VALUE: a stuck line and the value that it shows; line 0 is none.
+// LINE,VALUE: a stuck line and the value that it shows.
 #[derive(Clone, Copy)]
 pub struct Pair {
     pub line: u16,
     pub value: bool,
 }
 
-// Two inputs that are joined; 0 and 0 where there is no bridge.
+// Two inputs that are joined.
 #[derive(Clone, Copy)]
 pub struct Bridge {
     pub first: u16,
     pub second: u16,
 }
 
-// One to three stuck lines, which hold together, or one bridge.
+// No fault, one to three stuck lines, which hold together, or one bridge. That a third pair stands only after a second is said of the faults of a text
+// (`StuckFault`).
+#[derive(Clone, Copy)]
+pub enum FaultKind {
+    Sound,
+    Stuck(Pair, Option<Pair>, Option<Pair>),
+    Bridged(Bridge),
+}
+
+// Contracts see the definitions' fault, whose pairs and bridge that are not there name line 0. A struct around the enum, since no enum has a model.
 #[derive(Clone, Copy)]
 pub struct Fault {
-    pub first: Pair,
-    pub second: Pair,
-    pub third: Pair,
-    pub bridge: Bridge,
+    pub kind: FaultKind,
+}
+
+impl Model for Fault {
+    ghost use Rattle.statements.specs.Items.{Fault};
+
+    ghost Value = { Fault };
+
+    ghost use mathlib.Core.Path.{ap};
+    ghost use Rattle.statements.specs.FaultKinds.{fault_of_kind, FaultNamed, kind_of_fault, kind_back};
+
+    ghost view = { λ f. fault_of_kind f.kind };
+
+    ghost invariant = { λ f. FaultNamed f.kind };
+
+    ghost inverse = { λ f. record { kind = kind_of_fault f } };
+
+    ghost inverse_ok = { λ f named. ap (λ k. record { kind = k }) (kind_back f.kind named) };
 }
 
 // The numbers of the first line.
@@ -54,33 +78,14 @@ pub struct Head {
 }
 
 impl Output {
-    // What is read past the last output.
+    // What stands past the last output.
     pub const NONE: Output = Output { line: 0, weight: 0 };
-}
-
-impl Pair {
-    // A pair that names no line.
-    pub const FREE: Pair = Pair {
-        line: 0,
-        value: false,
-    };
-}
-
-impl Bridge {
-    // A bridge that joins no inputs.
-    pub const NONE: Bridge = Bridge {
-        first: 0,
-        second: 0,
-    };
 }
 
 impl Fault {
     // The fault of the sound circuit: it names no line and joins no inputs.
     pub const SOUND: Fault = Fault {
-        first: Pair::FREE,
-        second: Pair::FREE,
-        third: Pair::FREE,
-        bridge: Bridge::NONE,
+        kind: FaultKind::Sound,
     };
 }
 
@@ -91,40 +96,51 @@ struct PairFields {
     value: u16,
 }
 
-// The pair at field k of a line of so many fields, where there is one.
+impl PairFields {
+    fn read(line: &[u8], k: usize) -> PairFields
+        requires { k ≤ 5 }
+        ensures { (result.line ≡ value_at line.now k) × (result.value ≡ value_at line.now (suc k)) }
+    {
+        PairFields {
+            line: fields::value_at(line, k),
+            value: fields::value_at(line, k + 1),
+        }
+    }
+
+    fn in_range(self) -> bool
+        ensures { result ≡ (in_range self.line 1 56 && in_range self.value 0 1) }
+    {
+        fields::in_range(self.line, 1, 56) && fields::in_range(self.value, 0, 1)
+    }
+
+    fn stuck(self) -> Pair
+        ensures { (result.line ≡ self.line) × (result.value ≡ eqb self.value 1) }
+    {
+        Pair {
+            line: self.line,
+            value: self.value == 1,
+        }
+    }
+}
+
+// A second or third pair, at field k of a line of so many fields, where there is one.
 #[tactic(auto, using(fields::proofs::PlainLines::absent))]
-fn pair_fields(line: &[u8], k: usize, fields: usize) -> Option<PairFields>
+fn added_pair(line: &[u8], k: usize, fields: usize) -> Option<PairFields>
     requires in_line { k ≤ 5 }
     requires counted { fields ≡ field_count line.now }
     ensures { MatchOption result ((fields ≤ k) × (value_at line.now k ≡ 0) × (value_at line.now (suc k) ≡ 0)) (λ p. (k < fields) × (p.line ≡ value_at line.now k) × (p.value ≡ value_at line.now (suc k))) }
 {
     if k < fields {
-        Some(PairFields {
-            line: fields::value_at(line, k),
-            value: fields::value_at(line, k + 1),
-        })
+        Some(PairFields::read(line, k))
     } else {
         None
     }
 }
 
-fn pair_in_range(pair: Option<PairFields>) -> bool
+fn added_in_range(pair: Option<PairFields>) -> bool
     ensures { MatchOption pair (result ≡ true) (λ p. result ≡ (in_range p.line 1 56 && in_range p.value 0 1)) }
 {
-    pair.is_none_or(|p| fields::in_range(p.line, 1, 56) && fields::in_range(p.value, 0, 1))
-}
-
-// A pair that is not there names no line.
-fn stuck(pair: Option<PairFields>) -> Pair
-    ensures { MatchOption pair (result ≡ free) (λ p. (result.line ≡ p.line) × (result.value ≡ eqb p.value 1)) }
-{
-    pair.map_or(
-        Pair::FREE,
-        |p| Pair {
-            line: p.line,
-            value: p.value == 1,
-        },
-    )
+    pair.is_none_or(|p| p.in_range())
 }
 
 #[tactic(auto, unfolding(crate::specs::Lines::head_refusal, crate::specs::Lines::is_head, crate::specs::Lines::head_fits, crate::specs::Lines::head_of, fields::specs::Fields::fits, fields::specs::Fields::unless))]
@@ -172,42 +188,40 @@ pub fn output_line(top: usize, line: &[u8]) -> Result<Output, Flaw>
 #[tactic(auto, unfolding(crate::specs::Lines::is_fault))]
 fn is_fault(line: &[u8], fields: usize) -> bool
     requires { fields ≡ field_count line.now }
-    ensures { result ≡ is_fault line.now }
+    ensures same { result ≡ is_fault line.now }
+    ensures some { result ≡ true → 3 ≤ fields }
 {
     matches!(fields, 3 | 5 | 7) && fields::is_line(line, b"fault", 1, fields)
 }
 
 // A fault of stuck lines.
-#[tactic(auto, unfolding(crate::specs::Lines::fault_refusal, crate::specs::Lines::fault_fits, crate::specs::Lines::pair_fits, crate::specs::Lines::pair_in_range, crate::specs::Lines::lines_exist, crate::specs::Lines::lines_rise, crate::specs::Lines::rises_at, crate::specs::Lines::fault_of, crate::specs::Lines::pair_at, fields::specs::Fields::fits, fields::specs::Fields::unless))]
+#[tactic(auto, unfolding(crate::specs::Lines::fault_refusal, crate::specs::Lines::fault_fits, crate::specs::Lines::pair_fits, crate::specs::Lines::pair_in_range, crate::specs::Lines::lines_exist, crate::specs::Lines::lines_rise, crate::specs::Lines::rises_at, crate::specs::Lines::fault_of, crate::specs::Lines::pair_at, fields::specs::Fields::in_range, fields::specs::Fields::fits, fields::specs::Fields::unless))]
 fn fault_line(top: usize, line: &[u8]) -> Result<Fault, Flaw>
     ensures { Says result (fault_refusal top line.now) (fault_of line.now) }
 {
     let fields = text::fields(line);
     Flaw::Malformed.unless(is_fault(line, fields))?;
-    let a = pair_fields(line, 1, fields);
-    let b = pair_fields(line, 3, fields);
-    let c = pair_fields(line, 5, fields);
-    Flaw::OutOfRange.unless(pair_in_range(a) && pair_in_range(b) && pair_in_range(c))?;
-    let first = stuck(a);
-    let second = stuck(b);
-    let third = stuck(c);
-    let exist = first.line as usize <= top
-        && second.line as usize <= top
-        && third.line as usize <= top;
+    let a = PairFields::read(line, 1);
+    let b = added_pair(line, 3, fields);
+    let c = added_pair(line, 5, fields);
+    Flaw::OutOfRange.unless(a.in_range() && added_in_range(b) && added_in_range(c))?;
+    let exist = a.line as usize <= top
+        && b.is_none_or(|p| p.line as usize <= top)
+        && c.is_none_or(|p| p.line as usize <= top);
     Flaw::NoSuchLine.unless(exist)?;
-    let rise = (b.is_none() || first.line < second.line)
-        && (c.is_none() || second.line < third.line);
+    let rise = match (b, c) {
+        (Some(p), Some(q)) => a.line < p.line && p.line < q.line,
+        (Some(p), None) => a.line < p.line,
+        (None, _) => true,
+    };
     Flaw::NotRising.unless(rise)?;
     Ok(Fault {
-        first,
-        second,
-        third,
-        bridge: Bridge::NONE,
+        kind: FaultKind::Stuck(a.stuck(), b.map(|p| p.stuck()), c.map(|p| p.stuck())),
     })
 }
 
 // A bridge of two inputs.
-#[tactic(auto, unfolding(crate::specs::Lines::bridge_refusal, crate::specs::Lines::is_bridge, crate::specs::Lines::bridge_fits, crate::specs::Lines::inputs_rise, crate::specs::Lines::bridge_of, fields::specs::Fields::fits, fields::specs::Fields::unless))]
+#[tactic(auto, unfolding(crate::specs::Lines::bridge_refusal, crate::specs::Lines::is_bridge, crate::specs::Lines::bridge_fits, crate::specs::Lines::inputs_rise, crate::specs::Lines::bridge_of, fields::specs::Fields::in_range, fields::specs::Fields::fits, fields::specs::Fields::unless))]
 fn bridge_line(inputs: usize, line: &[u8]) -> Result<Fault, Flaw>
     ensures { Says result (bridge_refusal inputs line.now) (bridge_of line.now) }
 {
@@ -216,12 +230,12 @@ fn bridge_line(inputs: usize, line: &[u8]) -> Result<Fault, Flaw>
     let j = fields::value_at(line, 2);
     Flaw::OutOfRange.unless(fields::in_range(i, 1, 56) && fields::in_range(j, 1, 56))?;
     Flaw::NotInputs.unless(i as usize <= inputs && j as usize <= inputs && i < j)?;
+    let bridge = Bridge {
+        first: i,
+        second: j,
+    };
     Ok(Fault {
-        bridge: Bridge {
-            first: i,
-            second: j,
-        },
-        ..Fault::SOUND
+        kind: FaultKind::Bridged(bridge),
     })
 }
 

@@ -6,18 +6,17 @@
 use mathlib.Core.Path.{◌≡◌, refl, sym, ap, ◌∙◌, subst}
 use mathlib.Core.Bool.{Bool, true, false, cond, ◌&&◌, false≢true}
 use mathlib.Core.List.{List, [], ◌∷◌}
-use Prim.Native.Nat.{ℕ, zero, suc, ◌+◌, ◌<◌, ◌≤◌, ◌^◌}
+use Prim.Native.Nat.{ℕ, zero, suc, ◌+◌, ◌<◌, ◌^◌}
 use native.Mathlib.Omega.{arith}
 use lib.Dec.{eqb, lit≤}
 use lib.ListN.{length, length-map}
 use borrow.Author.Tests.{eqb-true, lt-ltb}
-use Rattle.std.specs.Prelude.{Ok}
 use Rattle.text.specs.Text.{before, after, has_byte, line_end}
 use Rattle.integer.specs.ListTests.{Below}
 use Rattle.integer.proofs.Bools.{both}
 use Rattle.statements.specs.Items.{sound}
 use Rattle.statements.specs.Lines.{fault_line_of}
-use Rattle.statements.specs.declared.Fault.{Fault}
+use Rattle.statements.specs.Items.{Fault}
 use Rattle.fields.specs.Fields.{fits}
 use Rattle.fields.proofs.Chains.{unless-passed}
 use Rattle.fields.proofs.PlainLines.{fits-range}

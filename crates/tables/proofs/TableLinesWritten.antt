@@ -22,7 +22,7 @@ use Rattle.fields.proofs.Chains.{unless-passed}
 use Rattle.fields.proofs.JoinedLines.{line-ended}
 use Rattle.fields.proofs.PlainLines.{plain_value}
 use Rattle.statements.specs.Lines.{fault_word, fault_refusal, fault_of, fault_line_refusal, fault_line_of}
-use Rattle.statements.specs.declared.Fault.{Fault}
+use Rattle.statements.specs.Items.{Fault}
 use Rattle.statements.specs.declared.Pair.{Pair}
 use Rattle.sections.specs.FaultLines.{Above, StuckFault, FaultRight, pair_written, stuck_line, fault_line}
 use Rattle.sections.proofs.FaultsRight.{free-line}

@@ -1,7 +1,7 @@
 -- How a table's text is answered, by its lines:
 --   table-one-exactly, table-line-exactly, table-seven-exactly    refused by 1, by a line's number and by 7, each exactly where it holds, at that place
 --   table-none-exactly                                            accepted exactly where none of them applies
---   table-refused                                                 by 1 at place 0, or by 2, 3, 5, 6, 7, 15 or 19 at a line from 1 to 35; table-number-some: never by 0
+--   table-refused                                                 by 1 at place 0, or by 2, 3, 5, 6, 7, 15 or 19 at a line from 1 to 35
 use mathlib.Core.Path.{◌≡◌, refl, sym, ap, ap₂, ◌∙◌, subst}
 use mathlib.Core.Bool.{Bool, true, false, cond}
 use mathlib.Core.List.{List, [], ◌∷◌}
@@ -17,7 +17,7 @@ use Rattle.text.specs.Text.{text_bytes, before, after, has_byte, line_end}
 use Rattle.fields.specs.Fields.{Fails}
 use Rattle.fields.proofs.Chains.{unless-passed}
 use Rattle.statements.specs.Lines.{fault_tests, fault_refusal, bridge_tests, bridge_refusal, names_bridge, fault_line_refusal, fault_line_of}
-use Rattle.statements.specs.declared.Fault.{Fault}
+use Rattle.statements.specs.Items.{Fault}
 use Rattle.statements.proofs.LineNumbers.{fault-least, bridge-least}
 use Rattle.sections.specs.Sections.{line_refusal, lines_from}
 use Rattle.sections.specs.FaultLines.{nth_fault_refusal}
@@ -300,11 +300,3 @@ table-refused text number place e = go (subst (Means text) e (table-means text))
     go (inr (inr b)) =
         let d = few-due text (b.1.pass.each 0 (omega arith)) in
         inr (omega (arith, b.1.place_is), omega (arith, b.1.place_is, d), inl b.0)
-
-pub table-number-some : (text : List ℕ) (number place : ℕ) → table_of text ≡ rejected_table number place → number ≡ 0 → ⊥
-table-number-some text number place e z = go (table-refused text number place e)
-  where
-    go : ((number ≡ 1) × (place ≡ 0)) ⊎ ((1 ≤ place) × (place ≤ 35) × ((number ≡ 7) ⊎ TableLineNumber number place)) → ⊥
-    go (inl one) = omega (arith, one.0, z)
-    go (inr (low, high, inl seven)) = omega (arith, seven, z)
-    go (inr (low, high, inr line)) = omega (arith, line_low number place line, z)

@@ -4,7 +4,7 @@
 use Rattle.std.specs.Prelude.{ℕ, ◌+◌, cond, List, [], eqb, ltb, length}
 use Rattle.text.specs.Text.{text_bytes, before, after, line_end}
 use Rattle.statements.specs.Lines.{fault_line_of}
-use Rattle.statements.specs.declared.Fault.{Fault}
+use Rattle.statements.specs.Items.{Fault}
 use Rattle.sections.specs.Sections.{Read, items, line_refused, line_refusal, lines_of}
 use Rattle.sections.specs.FaultLines.{nth_fault_refusal}
 use Rattle.tables.specs.Tables.{TruthTable}

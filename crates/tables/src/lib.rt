@@ -19,6 +19,8 @@ struct TableHead {
     cap: usize,
 }
 
+// It has the shape of `netlist::Circuit`: a head and arrays with a model, and methods that hand parts out. One struct for both would take the marks or the gates and
+// outputs, the head, the model and its invariant as parameters, to share four methods of one line.
 /// The table of an accepted text. In contracts a table is its truth table.
 #[derive(Drop)]
 pub struct Table {

@@ -1,5 +1,5 @@
 // The text of a table, line by line.
-ghost use Rattle.std.specs.Prelude.{◌≡◌, ◌^◌, ◌≤◌, true, false, drop, take, MatchOption, MatchResult};
+ghost use Rattle.std.specs.Prelude.{◌≡◌, ◌^◌, ◌≤◌, true, false, take, MatchOption, MatchResult};
 ghost use Rattle.refusals.specs.Refusals.{flaw_number, Says, told};
 ghost use Rattle.tables.specs.TableLines.{is_table, table_head_refusal, table_head_of, is_mark, doubled_mark, mark_refusal, marks_of};
 ghost use Rattle.tables.specs.TableParsing.{accepted_table, rejected_table, table_body, table_of};
@@ -22,12 +22,11 @@ pub fn is_table(text: &[u8]) -> bool
 fn head_line(line: &[u8]) -> Result<TableHead, Flaw>
     ensures { Says result (table_head_refusal line.now) (table_head_of line.now) }
 {
+    Flaw::Malformed.unless(fields::is_line(line, b"table", 1, 4))?;
     let n = fields::value_at(line, 1);
     let q = fields::value_at(line, 2);
     let k = fields::value_at(line, 3);
-    let formed = fields::is_line(line, b"table", 1, 4);
     let fit = fields::in_range(n, 1, 8) && fields::in_range(q, 1, 32) && fields::in_range(k, 1, 4);
-    Flaw::Malformed.unless(formed)?;
     Flaw::OutOfRange.unless(fit)?;
     Ok(TableHead {
         inputs: n as usize,
@@ -49,7 +48,7 @@ fn doubled(mark: u8) -> Option<u8>
     }
 }
 
-// The doubled marks of a line of 2^N, without its end.
+// The doubled marks of a line of 2^N, without its end, at the front of the result: there is no heap for a list of so many.
 fn mark_line(line: &[u8], inputs: usize) -> Result<[u8; 256], Flaw>
     requires { inputs ≤ 8 }
     ensures { MatchResult result (λ marks. (mark_refusal inputs line.now ≡ 0) × (take (2 ^ inputs) marks ≡ marks_of line.now)) (λ flaw. flaw_number flaw ≡ mark_refusal inputs line.now) }
@@ -65,20 +64,20 @@ fn mark_line(line: &[u8], inputs: usize) -> Result<[u8; 256], Flaw>
     Ok(marks)
 }
 
-// The lines after the first, from `from` on.
-fn body(text: &[u8], from: usize, head: TableHead) -> Result<Table, Refusal>
+// The lines after the first.
+fn body(text: &[u8], head: TableHead) -> Result<Table, Refusal>
     requires { TableHeadRight head }
-    ensures { told accepted_table rejected_table result ≡ table_body head (drop from text.now) }
+    ensures { told accepted_table rejected_table result ≡ table_body head text.now }
 {
-    let (line, at) = sections::line_at(text, from, 2)?;
+    let (line, after_marks) = sections::first_line(text, 2)?;
     let marks = mark_line(line, head.inputs).map_err(|flaw| Refusal::Line { flaw, line: 2 })?;
     let lines = FaultLines {
         inputs: head.inputs,
         top: head.inputs,
     };
     let mut faults = [Fault::SOUND; 32];
-    let at = sections::read_lines(&lines, text, at, 3, &mut faults[..head.faults])?;
-    if at < text.len() {
+    let rest = sections::read_lines(&lines, after_marks, 3, &mut faults[..head.faults])?;
+    if !rest.is_empty() {
         return Err(Refusal::TextGoesOn {
             line: head.faults + 3,
         });
@@ -90,14 +89,14 @@ fn body(text: &[u8], from: usize, head: TableHead) -> Result<Table, Refusal>
     })
 }
 
-// The table that a text states, or why it is refused.
+// The table that a text states, or why it is refused. (The reason for a second parser beside `netlist::parse` is there.)
 pub fn parse(text: &[u8]) -> Result<Table, Refusal>
     ensures { told accepted_table rejected_table result ≡ table_of text.now }
 {
     if text::TEXT_BYTES < text.len() {
         return Err(Refusal::TextTooLong);
     }
-    let (line, at) = sections::line_at(text, 0, 1)?;
+    let (line, rest) = sections::first_line(text, 1)?;
     let head = head_line(line).map_err(|flaw| Refusal::Line { flaw, line: 1 })?;
-    body(text, at, head)
+    body(rest, head)
 }

@@ -14,7 +14,7 @@ use mathlib.Core.Path.{◌≡◌, refl, sym, ap, ◌∙◌}
 use mathlib.Core.Bool.{Bool, true, false, cond}
 use mathlib.Core.List.{List, [], ◌∷◌, ◌++◌}
 use Prim.Native.Nat.{ℕ, zero, suc, ◌+◌, ◌-◌, ◌<◌, ◌≤◌, zero-le}
-use native.Mathlib.Nat.{zero-add, sub-zero, lt_of_not-le}
+use native.Mathlib.Nat.{lt_of_not-le}
 use native.Mathlib.Decide.{dec_le}
 use native.Mathlib.Numerals.{add-one}
 use native.Mathlib.Omega.{arith}
@@ -231,9 +231,6 @@ no_field l (suc k) h = by (no_field (after comma l) k) (dec_le (length l) (index
 pub record Rest (l : List ℕ) (k i a : ℕ) : Type 0 where
   pub field : field_of l k ≡ field_of (drop a l) (k - i)
   pub start : field_start l k ≡ a + field_start (drop a l) (k - i)
-
-pub rest_all : (l : List ℕ) (k : ℕ) → Rest l k 0 0
-rest_all l k = record { field = rw sub-zero; start = rw (sub-zero, zero-add) }
 
 one_less : {i k : ℕ} → i < k → k - i ≡ suc (k - (i + 1))
 one_less h = omega arith

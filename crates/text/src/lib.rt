@@ -9,7 +9,8 @@ use std::ops::Range;
 // A text has at most so many bytes.
 pub const TEXT_BYTES: usize = 16384;
 
-// The index of the first b from `from` on, or the text's end where there is none: both end the part that starts at `from`.
+// The index of the first b from `from` on, or the text's end where there is none (`from` itself past the end): each ends the part that starts at `from`, so no
+// Option. `from` stays beside the text, since `locate` hands back where a field stands in the whole of it.
 pub fn find(text: &[u8], from: usize, b: u8) -> usize
     ensures { result ≡ from + index_of b (drop from text.now) }
 {
@@ -33,7 +34,7 @@ pub fn fields(text: &[u8]) -> usize
     1 + text.iter().filter(|x| **x == b',').count()
 }
 
-// Where field k stands, from 0; at the text's end where there is none.
+// Where field k stands, from 0; at the text's end where there is none, which is what document 01 hands back.
 pub fn locate(text: &[u8], k: usize) -> Range<usize>
     ensures { (result.start ≡ field_start text.now k) × (result.end ≡ field_start text.now k + length (field_of text.now k)) }
 {
@@ -55,12 +56,10 @@ pub fn field<'a>(text: &'a [u8], k: usize) -> &'a [u8]
     ensures ref_ptr_value { result.ref_ptr ≡ further (field_start text.now k) text.entry.ref_ptr }
 {
     let s = locate(text, k);
-    let a = s.start;
-    let b = s.end;
-    &text[a..b]
+    &text[s.start..s.end]
 }
 
-// Whether two texts are the same, byte for byte.
+// Whether two texts are the same, byte for byte: `==`, with the promise that the words of a line are compared by.
 #[tactic(auto, using(crate::proofs::Words::same_pointwise))]
 pub fn same(a: &[u8], b: &[u8]) -> bool
     ensures { result ≡ same_bytes a.now b.now }
@@ -68,7 +67,7 @@ pub fn same(a: &[u8], b: &[u8]) -> bool
     a == b
 }
 
-// The number that a field says: one to four digits, the first no 0 unless it stands alone.
+// The number that a field says: one to four digits, the first no 0 unless it stands alone. By hand: `parse` takes `+5` and `05` too.
 #[tactic(auto, using(crate::proofs::Decimals::digit_steps))]
 pub fn decimal(s: &[u8]) -> Option<u16>
     ensures { result ≡ number_of s.now }

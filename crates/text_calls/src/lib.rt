@@ -1,46 +1,36 @@
-// Holds the calls on a text that write no list, plan, report, reading, pair and field, to stored cases.
+// Holds the calls on a text for a plan, a report, a reading, a pair and a field to stored cases.
 #![tactic(auto)]
 
 use cases::lines;
-use reading::Reading;
 use refusals::Refusal;
+use replies::{Comparison, Measured, Signature};
 use search::LabelSet;
 
-// Whether the working numbers from `from` on are the noise that was in them.
-fn is_kept(work: &[u32], from: usize) -> bool {
-    work.iter().skip(from).all(|x| *x == 2779096485)
-}
+// What stands in lent working numbers and in lent bytes before a call.
+const NOISE: u32 = 0xA5A5_A5A5;
 
-// Whether the bytes from `from` on are the `#` that were there.
-fn is_blank(out: &[u8], from: usize) -> bool {
-    out.iter().skip(from).all(|x| *x == b'#')
+const BLANK: u8 = b'#';
+
+// Whether all from `from` on are what they were.
+fn is_kept<T: PartialEq + Copy>(lent: &[T], from: usize, before: T) -> bool {
+    lent.iter().skip(from).all(|x| *x == before)
 }
 
 fn plan_numbers(plan: Result<LabelSet, Refusal>) -> [i32; 7] {
-    match plan {
-        Ok(set) => [
-            0,
-            0,
-            lines::narrow(set.size),
-            lines::narrow_word(set.labels[0]),
-            lines::narrow_word(set.labels[1]),
-            lines::narrow_word(set.labels[2]),
-            lines::narrow_word(set.labels[3]),
-        ],
-        Err(r) => [
-            lines::narrow_word(r.number()),
-            lines::narrow(r.place()),
-            0,
-            0,
-            0,
-            0,
-            0,
-        ],
-    }
+    let s = Signature::from(plan);
+    [
+        lines::narrow(s.number),
+        lines::narrow(s.place),
+        lines::narrow(s.size),
+        lines::narrow(s.labels[0]),
+        lines::narrow(s.labels[1]),
+        lines::narrow(s.labels[2]),
+        lines::narrow(s.labels[3]),
+    ]
 }
 
 // How many working numbers may have changed: those of a plan, 13 and 14.
-fn free_of(plan: Result<LabelSet, Refusal>) -> usize {
+fn free_of(plan: &Result<LabelSet, Refusal>) -> usize {
     match plan {
         Ok(_) | Err(Refusal::Silent { .. } | Refusal::NoSet) => planner::WORKING_NUMBERS,
         Err(_) => 0,
@@ -49,7 +39,7 @@ fn free_of(plan: Result<LabelSet, Refusal>) -> usize {
 
 fn plan_by(text: &[u8], work: &mut [u32], due: &[u8]) -> bool {
     let plan = planner::plan(text, work);
-    is_kept(work, free_of(plan)) && lines::are_due(&plan_numbers(plan), due)
+    is_kept(work, free_of(&plan), NOISE) && lines::are_due(&plan_numbers(plan), due)
 }
 
 // The plan, with `lent` working numbers.
@@ -57,15 +47,16 @@ pub fn plan_holds(text: &[u8], lent: usize, due: &[u8]) -> bool {
     if 4700 < lent {
         return false;
     }
-    let mut work = [2779096485u32; 4700];
+    let mut work = [NOISE; 4700];
     plan_by(text, &mut work[..lent], due)
 }
 
 // Whether the report is what is due, with the bytes after it as they were; where nothing is due nothing is written, with 8.
 fn report_left(report: Result<usize, Refusal>, out: &[u8], due: &[u8]) -> bool {
     match report {
-        Ok(bytes) => bytes == due.len() && out.starts_with(due) && is_blank(out, bytes),
-        Err(r) => r.number() == 8 && due.is_empty() && is_blank(out, 0),
+        Ok(bytes) => bytes == due.len() && out.starts_with(due) && is_kept(out, bytes, BLANK),
+        Err(Refusal::ShortBuffer) => due.is_empty() && is_kept(out, 0, BLANK),
+        Err(_) => false,
     }
 }
 
@@ -84,7 +75,7 @@ fn free_by(due: &[u8]) -> usize {
 
 fn report_by(text: &[u8], out: &mut [u8], work: &mut [u32], due: &[u8]) -> bool {
     let report = report::report(text, out, work);
-    is_kept(work, free_by(due)) && report_left(report, out, due)
+    is_kept(work, free_by(due), NOISE) && report_left(report, out, due)
 }
 
 // The report, with `room` bytes and `lent` working numbers.
@@ -95,8 +86,8 @@ pub fn report_holds(text: &[u8], room: usize, lent: usize, due: &[u8]) -> bool {
     if 4700 < lent {
         return false;
     }
-    let mut out = [35u8; 1100];
-    let mut work = [2779096485u32; 4700];
+    let mut out = [BLANK; 1100];
+    let mut work = [NOISE; 4700];
     report_by(text, &mut out[..room], &mut work[..lent], due)
 }
 
@@ -105,7 +96,7 @@ fn is_fraction(value: f64, sum: i32, count: u32) -> bool {
     value * (count as f64) == (sum as f64)
 }
 
-// A reading's case as a number: 1 a plain syndrome, 2 a weighted sum, 3 a constrained value, 0 a refusal.
+// The answer has the reading's kind and number of fixed inputs, and the value is the sum by the count.
 pub fn reading_holds(
     text: &[u8],
     mask: u32,
@@ -114,30 +105,14 @@ pub fn reading_holds(
     count: u32,
     due: &[u8],
 ) -> bool {
-    match fixture::read(text, mask, values) {
-        Reading::Syndrome(value) => {
-            is_fraction(value, sum, count) && lines::are_due(&[0, 0, 1, 0], due)
-        }
-        Reading::Weighted(value) => {
-            is_fraction(value, sum, count) && lines::are_due(&[0, 0, 2, 0], due)
-        }
-        Reading::Constrained(value, fixed) => {
-            is_fraction(value, sum, count)
-                && lines::are_due(&[0, 0, 3, lines::narrow_word(fixed)], due)
-        }
-        Reading::Refused(r) => {
-            is_fraction(0.0, sum, count)
-                && lines::are_due(
-                    &[
-                        lines::narrow_word(r.number()),
-                        lines::narrow(r.place()),
-                        0,
-                        0,
-                    ],
-                    due,
-                )
-        }
-    }
+    let m = Measured::from(fixture::read(text, mask, values));
+    let numbers = [
+        lines::narrow(m.number),
+        lines::narrow(m.place),
+        lines::narrow(m.kind),
+        lines::narrow(m.fixed),
+    ];
+    is_fraction(m.value, sum, count) && lines::are_due(&numbers, due)
 }
 
 // The sums are those of the sound reading, the faulty one and the difference.
@@ -150,21 +125,12 @@ pub fn pair_holds(
     count: u32,
     due: &[u8],
 ) -> bool {
-    match fixture::compare(text, fault, mask, values) {
-        Ok(readings) => {
-            is_fraction(readings.sound, sums[0], count)
-                && is_fraction(readings.faulty, sums[1], count)
-                && is_fraction(readings.difference, sums[2], count)
-                && lines::are_due(&[0, 0], due)
-        }
-        Err(r) => {
-            sums == [0; 3]
-                && lines::are_due(
-                    &[lines::narrow_word(r.number()), lines::narrow(r.place())],
-                    due,
-                )
-        }
-    }
+    let c = Comparison::from(fixture::compare(text, fault, mask, values));
+    let numbers = [lines::narrow(c.number), lines::narrow(c.place)];
+    is_fraction(c.sound, sums[0], count)
+        && is_fraction(c.faulty, sums[1], count)
+        && is_fraction(c.difference, sums[2], count)
+        && lines::are_due(&numbers, due)
 }
 
 // The field's bytes, where it starts and how long it is.

@@ -1,24 +1,23 @@
 -- The spectrum of a list is made of its halves' spectra:
---   single, pair, merge    one number is its own spectrum; of two it is their butterfly; two halves are merged by the butterfly
---   Halved, with first-asks, second-asks, butterfly-asks, butterfly-leaves    what the slice holds between two calls on its halves
---   halved                 a slice of 2 ^ k numbers, k above 0, has such halves
-use mathlib.Core.Path.{◌≡◌, refl, sym, ap, ap₂, ◌∙◌, subst⁻¹}
-use mathlib.Core.List.{List, [], ◌∷◌, ◌++◌, append-nil}
-use Prim.Native.Nat.{ℕ, suc, ◌+◌, ◌-◌, ◌/◌, ◌^◌, ◌≤◌, ◌<◌}
-use native.Mathlib.Nat.{pos_of_ne-zero}
+--   single, merge          one number is its own spectrum; two halves' spectra are merged by the butterfly
+--   low-small, high-small  the halves are no larger than a transform takes
+--   spectra-long, spectra-small, spectra-merged    their spectra are what the butterfly takes, and it merges them
+use mathlib.Core.Path.{◌≡◌, sym, ap, ap₂, ◌∙◌, subst⁻¹}
+use mathlib.Core.List.{List, [], ◌∷◌, ◌++◌}
+use Prim.Native.Nat.{ℕ, suc, ◌+◌, ◌/◌, ◌^◌, ◌≤◌, ◌<◌}
+use native.Mathlib.Numerals.{add-one}
 use native.Mathlib.Omega.{arith}
 use lib.Pow.{pow_mono}
 use lib.IntN.{ℤ, pos, ◌+ℤ◌, ◌-ℤ◌, +ℤ_idl}
-use lib.ListN.{length, take, drop, length-append, length-drop, drop_of_length-le, get_or-append}
-use lib.Seq.{take_at, drop_at, take_all, length-take-le, get_or-take, get_or-drop, get_or-append-add}
+use lib.ListN.{length, take, drop, length-append, length-drop, get_or-append}
+use lib.Seq.{length-take-le, get_or-take, get_or-drop, get_or-append-add}
 use lib.Count.{ones}
-use borrow.Rule.Slice.PartMut.{put_mid}
 use Rattle.integer.specs.Sum.{sum_to}
 use Rattle.integer.specs.Tab.{tab, nth, Within}
 use Rattle.integer.proofs.Bounds.{within-take, within-drop, within-append, within_more}
 use Rattle.integer.proofs.Tabs.{tab-ext, tab-split}
 use Rattle.integer.proofs.Halves.{double}
-use Rattle.transform.specs.Spectrum.{term_of, signed_sum, coefficient_of, spectrum_of}
+use Rattle.transform.specs.Spectrum.{Transformable, term_of, signed_sum, coefficient_of, spectrum_of}
 use Rattle.transform.specs.Steps.{halves_mixed}
 use Rattle.transform.proofs.Halving.{sum_low, sum-high, sum-equal, upper}
 use Rattle.transform.proofs.Spectra.{length-spectrum, nth-spectrum, spectrum-tab, within-spectrum}
@@ -62,101 +61,57 @@ module _ (a : List ℤ) (j : ℕ) (e : length a ≡ 2 ^ j + 2 ^ j) where
       ∙ ap (λ (n : ℕ). tab n (signed_sum (2 ^ suc j) (nth a))) (sym (double j))
       ∙ sym (spectrum-tab a (2 ^ suc j) (e ∙ sym (double j)))
 
-pub pair : (a : List ℤ) → length a ≡ 2 → halves_mixed a 1 ≡ spectrum_of a
-pair (x ∷ y ∷ []) e = ap₂ (λ (p q : List ℤ). halves_mixed (p ++ q) 1) (single (x ∷ []) refl) (single (y ∷ []) refl) ∙ merge (x ∷ y ∷ []) 0 refl
-pair [] e = absurd (omega arith)
-pair (x ∷ []) e = absurd (omega arith)
-pair (x ∷ y ∷ z ∷ r) e = absurd (omega arith)
-
 -- Two calls on the halves of a slice of h + h numbers, h = 2 ^ j: the first leaves L in the lower half, the second R in the upper half.
 
-pub record Halved (a : List ℤ) (h j : ℕ) : Type 0 where
-  pub half : h ≡ 2 ^ j
-  pub few : h ≤ 2048
-  pub whole : length a ≡ h + h
-  pub small : Within 2048000 a
+-- A slice of two halves, between the calls on them.
+module _ (k n : ℕ) (a : List ℤ) (up : n ≡ k + 1) (small : Transformable n a) where
+  whole : length a ≡ 2 ^ k + 2 ^ k
+  whole = small.long ∙ ap (λ (m : ℕ). 2 ^ m) (up ∙ add-one k) ∙ double k
 
--- what a call on a half asks
-abbrev Asks : List ℤ → ℕ → Type 0
-Asks a n = (length a ≡ n) × Within 2048000 a
+  half : length a / 2 ≡ 2 ^ k
+  half = omega (arith, whole)
 
-abbrev held-between : List ℤ → ℕ → List ℤ → List ℤ
-held-between a h L = L ++ drop h a
+  two-halves : length a ≡ length a / 2 + length a / 2
+  two-halves = omega (arith, whole)
 
-abbrev lent-second : List ℤ → ℕ → List ℤ → List ℤ
-lent-second a h L = take (length (held-between a h L) - h) (drop h (held-between a h L))
+  few : length a / 2 ≤ 2048
+  few = let m : 2 ^ k ≤ 2 ^ 11 = pow_mono {j = 11} (omega arith) in omega (arith, half)
 
-abbrev held_after : List ℤ → ℕ → List ℤ → List ℤ → List ℤ
-held_after a h L R = put_mid h (length (held-between a h L) - h) (held-between a h L) R
+  module _ (x y : List ℤ) (ex : x ≡ take (length a / 2) a) (ey : y ≡ drop (length a / 2) a) where
+    low-long : length x ≡ length a / 2
+    low-long = ap length ex ∙ length-take-le (length a / 2) a (omega (arith, two-halves))
 
-module _ (a : List ℤ) (h j : ℕ) (halves : Halved a h j) where
-  long : length a ≡ h + h
-  long = halves.whole
+    high-long : length y ≡ length a / 2
+    high-long = ap length ey ∙ omega (arith, length-drop (length a / 2) a, two-halves)
 
-  low-long : length (take h a) ≡ h
-  low-long = length-take-le h a (omega (arith, long))
+    pub low-small : Transformable k x
+    low-small = record {
+      inputs = omega arith;
+      long = low-long ∙ half;
+      within = subst⁻¹ (Within 2048000) ex (within-take 2048000 (length a / 2) a (omega (arith, two-halves)) small.within);
+    }
 
-  high-long : length (drop h a) ≡ h
-  high-long = omega (arith, length-drop h a, long)
+    pub high-small : Transformable k y
+    high-small = record {
+      inputs = omega arith;
+      long = high-long ∙ half;
+      within = subst⁻¹ (Within 2048000) ey (within-drop 2048000 (length a / 2) a small.within);
+    }
 
-  pub first-asks : Asks (take h a) h
-  first-asks = (low-long, within-take 2048000 h a (omega (arith, long)) halves.small)
-
-  module _ (L : List ℤ) (el : L ≡ spectrum_of (take h a)) where
-    left-long : length L ≡ h
-    left-long = ap length el ∙ length-spectrum (take h a) ∙ low-long
-
-    rest : length (held-between a h L) - h ≡ length (drop h a)
-    rest = omega (arith, length-append L (drop h a), left-long)
-
-    lent : lent-second a h L ≡ drop h a
-    lent = ap₂ (λ (n : ℕ) (l : List ℤ). take n l) rest (drop_at L (drop h a) h left-long) ∙ take_all (length (drop h a)) (drop h a) (omega arith)
-
-    pub second-asks : Asks (lent-second a h L) h
-    second-asks = subst⁻¹ (λ (m : List ℤ). Asks m h) lent (high-long, within-drop 2048000 h a halves.small)
-
-    module _ (R : List ℤ) (er : R ≡ spectrum_of (lent-second a h L)) where
-      abbrev spectra : List ℤ
-      spectra = spectrum_of (take h a) ++ spectrum_of (drop h a)
-
-      put_back : held_after a h L R ≡ L ++ R
-      put_back =
-          ap₂ (λ (p q : List ℤ). p ++ (R ++ q)) (take_at L (drop h a) h left-long)
-          (ap₂ (λ (n : ℕ) (l : List ℤ). drop n l) rest (drop_at L (drop h a) h left-long) ∙ drop_of_length-le (drop h a) {i = length (drop h a)} (omega arith))
-          ∙ ap (λ (q : List ℤ). L ++ q) (append-nil R)
-
-      held : held_after a h L R ≡ spectra
-      held = put_back ∙ ap₂ (λ (p q : List ℤ). p ++ q) el (er ∙ ap spectrum_of lent)
-
-      small_low : Within 4194304000 (spectrum_of (take h a))
-      small_low =
-          within_more (spectrum_of (take h a)) (omega (arith, low-long, halves.few))
-          (within-spectrum 2048000 (take h a) (within-take 2048000 h a (omega (arith, long)) halves.small))
-
-      small-high : Within 4194304000 (spectrum_of (drop h a))
-      small-high =
-          within_more (spectrum_of (drop h a)) (omega (arith, high-long, halves.few)) (within-spectrum 2048000 (drop h a) (within-drop 2048000 h a halves.small))
-
-      spectra-long : length spectra ≡ h + h
+    module _ (p q : List ℤ) (ep : p ≡ spectrum_of x) (eq : q ≡ spectrum_of y) where
+      pub spectra-long : length (p ++ q) ≡ length a / 2 + length a / 2
       spectra-long =
-          length-append (spectrum_of (take h a)) (spectrum_of (drop h a))
-          ∙ ap₂ (λ (m n : ℕ). m + n) (length-spectrum (take h a) ∙ low-long) (length-spectrum (drop h a) ∙ high-long)
+          length-append p q
+          ∙ ap₂ (λ (m n : ℕ). m + n) (ap length ep ∙ length-spectrum x ∙ low-long) (ap length eq ∙ length-spectrum y ∙ high-long)
 
-      pub butterfly-asks : (length (held_after a h L R) ≡ h + h) × Within 4194304000 (held_after a h L R)
-      butterfly-asks =
-          subst⁻¹ (λ (m : List ℤ). (length m ≡ h + h) × Within 4194304000 m) held
-          (spectra-long, within-append 4194304000 (spectrum_of (take h a)) (spectrum_of (drop h a)) small_low small-high)
+      pub spectra-small : Within 4194304000 (p ++ q)
+      spectra-small =
+          within-append 4194304000 p q
+          (subst⁻¹ (Within 4194304000) ep (within_more (spectrum_of x) (omega (arith, low-long, few)) (within-spectrum 2048000 x low-small.within)))
+          (subst⁻¹ (Within 4194304000) eq (within_more (spectrum_of y) (omega (arith, high-long, few)) (within-spectrum 2048000 y high-small.within)))
 
-      pub butterfly-leaves : halves_mixed (held_after a h L R) h ≡ spectrum_of a
-      butterfly-leaves =
-          ap (λ (m : List ℤ). halves_mixed m h) held
-          ∙ ap (λ (n : ℕ). halves_mixed (spectrum_of (take n a) ++ spectrum_of (drop n a)) n) halves.half
-          ∙ merge a j (long ∙ ap (λ (n : ℕ). n + n) halves.half)
-
-pub halved : (a : List ℤ) (k : ℕ) → (k ≡ 0 → ⊥) → k ≤ 11 → length a ≡ 2 ^ k → Within 2048000 a → Halved a (length a / 2) (k - 1)
-halved a k above few e small =
-    let p = pos_of_ne-zero above in
-    let up : k ≡ suc (k - 1) = omega arith in
-    let w : length a ≡ 2 ^ (k - 1) + 2 ^ (k - 1) = e ∙ ap (λ (m : ℕ). 2 ^ m) up ∙ double (k - 1) in
-    let m : 2 ^ (k - 1) ≤ 2 ^ 11 = pow_mono {j = 11} (omega arith) in
-    record { half = omega arith; few = omega arith; whole = omega arith; small = small }
+      pub spectra-merged : halves_mixed (p ++ q) (length a / 2) ≡ spectrum_of a
+      spectra-merged =
+          ap₂ (λ (u v : List ℤ). halves_mixed (u ++ v) (length a / 2)) (ep ∙ ap spectrum_of ex) (eq ∙ ap spectrum_of ey)
+          ∙ ap (λ (n : ℕ). halves_mixed (spectrum_of (take n a) ++ spectrum_of (drop n a)) n) half
+          ∙ merge a k whole

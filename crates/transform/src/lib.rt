@@ -1,10 +1,12 @@
 // The whole spectrum in place, by sums and differences of halves.
 #![tactic(auto)]
 
-ghost use Rattle.std.specs.Prelude.{◌≡◌, ◌+◌, ◌^◌, ◌≤◌, length};
+ghost use Rattle.std.specs.Prelude.{ℕ, ◌≡◌, ◌+◌, ◌^◌, ◌≤◌, length};
 ghost use Rattle.integer.specs.Tab.{Within};
-ghost use Rattle.transform.specs.Spectrum.{spectrum_of};
+ghost use Rattle.transform.specs.Spectrum.{Transformable, spectrum_of};
 ghost use Rattle.transform.specs.Steps.{halves_mixed};
+
+use std::marker::PhantomData;
 
 // Sums of the two halves of `a`, and then their differences.
 fn butterfly(a: &mut [i64], h: usize)
@@ -20,69 +22,63 @@ fn butterfly(a: &mut [i64], h: usize)
     }
 }
 
-// The spectrum of two numbers. It and the next three are the recursion's last levels, with sizes that the compiler knows: it makes straight code of
-// them, which saves most of the calls and of the loads and stores. One generic function for the four would call itself at half its const parameter, and a
-// const argument is no computed number.
-fn two(a: &mut [i64])
-    requires a_len { length a.old ≡ 2 }
-    requires within { Within 2048000 a.old }
-    ensures { a.new ≡ spectrum_of a.old }
-{
-    butterfly(a, 1);
+// A transform of a size that its type says, as the recursion's last levels are. They are inlined, and of sizes that it knows the compiler makes straight code: that
+// saves most of the calls and of the loads and stores. `transform` takes the same steps, at a size that is known only when it runs.
+trait Straight {
+    ghost inputs: { ℕ };
+
+    // The spectrum of the 2^inputs numbers of `a`, in place.
+    fn transform(a: &mut [i64])
+        requires { Transformable inputs a.old }
+        ensures { a.new ≡ spectrum_of a.old };
 }
 
-// The spectrum of four numbers.
-fn four(a: &mut [i64])
-    requires a_len { length a.old ≡ 4 }
-    requires within { Within 2048000 a.old }
-    ensures { a.new ≡ spectrum_of a.old }
-{
-    two(&mut a[..2]);
-    two(&mut a[2..]);
-    butterfly(a, 2);
+// Of one number, which is its own spectrum.
+struct One;
+
+// Of twice as many as `H` takes.
+struct Twice<H>(PhantomData<H>);
+
+impl Straight for One {
+    ghost inputs = { 0 };
+
+    fn transform(_a: &mut [i64]) {}
 }
 
-// The spectrum of eight numbers.
-fn eight(a: &mut [i64])
-    requires a_len { length a.old ≡ 8 }
-    requires within { Within 2048000 a.old }
-    ensures { a.new ≡ spectrum_of a.old }
-{
-    four(&mut a[..4]);
-    four(&mut a[4..]);
-    butterfly(a, 4);
+impl<H: Straight> Straight for Twice<H> {
+    ghost inputs = { H.inputs + 1 };
+
+    #[inline(always)]
+    fn transform(a: &mut [i64]) {
+        let h = a.len() / 2;
+        let (low, high) = a.split_at_mut(h);
+        H::transform(low);
+        H::transform(high);
+        butterfly(a, h);
+    }
 }
 
-// The spectrum of sixteen numbers.
-fn sixteen(a: &mut [i64])
-    requires a_len { length a.old ≡ 16 }
-    requires within { Within 2048000 a.old }
-    ensures { a.new ≡ spectrum_of a.old }
-{
-    eight(&mut a[..8]);
-    eight(&mut a[8..]);
-    butterfly(a, 8);
-}
+type Sixteen = Twice<Twice<Twice<Twice<One>>>>;
 
 // Where the recursion ends: at sixteen numbers.
 const STRAIGHT_INPUTS: u32 = 4;
 
 // The spectrum of the 2^inputs numbers of `a`, in place.
 pub fn transform(a: &mut [i64], inputs: u32)
-    requires inputs_bound { inputs ≤ 11 }
-    requires a_len { length a.old ≡ 2 ^ inputs }
-    requires within { Within 2048000 a.old }
+    requires { Transformable inputs a.old }
     ensures { a.new ≡ spectrum_of a.old }
 {
     if inputs == 0 {
         return;
     }
     if inputs == STRAIGHT_INPUTS {
-        sixteen(a);
+        // That is all of `a`: so the compiler knows its length.
+        Sixteen::transform(&mut a[..16]);
         return;
     }
     let h = a.len() / 2;
-    transform(&mut a[..h], inputs - 1);
-    transform(&mut a[h..], inputs - 1);
+    let (low, high) = a.split_at_mut(h);
+    transform(low, inputs - 1);
+    transform(high, inputs - 1);
     butterfly(a, h);
 }

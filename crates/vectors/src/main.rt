@@ -27,10 +27,11 @@ ghost use Rattle.std.specs.Counts.{IsPrefixLen};
 use cases::heads::{Call, CaseHead};
 use cases::numbers;
 use cases::numbers::argument;
+use list_calls::Given;
 use std::io;
 use std::io::Read;
 
-// The sums of a pair.
+// The sums of a pair: three, since the head was tested.
 fn three(list: &[i32]) -> [i32; 3] {
     match list {
         [sound, faulty, difference] => [*sound, *faulty, *difference],
@@ -38,7 +39,7 @@ fn three(list: &[i32]) -> [i32; 3] {
     }
 }
 
-// The sum of a reading.
+// The sum of a reading: one, since the head was tested.
 fn one(list: &[i32]) -> i32 {
     match list {
         [sum] => *sum,
@@ -46,7 +47,7 @@ fn one(list: &[i32]) -> i32 {
     }
 }
 
-// Whether the call's answer is what is due.
+// Whether the call's answer is what is due. A `match`: each call is given other parts of the case.
 fn call_holds(
     h: CaseHead,
     text: &[u8],
@@ -67,23 +68,17 @@ fn call_holds(
         Some(Call::Reading) => text_calls::reading_holds(text, x, y, one(list), last, due),
         Some(Call::Pair) => text_calls::pair_holds(text, x, y, z, three(list), last, due),
         Some(Call::Field) => text_calls::field_holds(text, x as usize, last as usize, due),
-        Some(call) => list_calls::lent_holds(call, text, list, first, second, h.room, due),
+        Some(Call::List(call)) => {
+            let given = Given {
+                call,
+                text,
+                list,
+                first,
+                second,
+            };
+            given.holds(h.room, due)
+        }
     }
-}
-
-fn arguments_hold(
-    h: CaseHead,
-    text: &[u8],
-    list: &[i32],
-    firsts: &[u8],
-    first: &mut [u32],
-    seconds: &[u8],
-    second: &mut [u32],
-    due: &[u8],
-) -> bool {
-    numbers::fill(firsts, first)
-        && numbers::fill(seconds, second)
-        && call_holds(h, text, list, first, second, due)
 }
 
 // The arguments and what is due are in `rest`.
@@ -100,20 +95,11 @@ fn rest_holds(h: CaseHead, text: &[u8], list: &[i32], rest: &[u8]) -> bool {
     }
     let mut first = [0u32; 4];
     let mut second = [0u32; 4];
-    arguments_hold(
-        h,
-        text,
-        list,
-        &rest[..next],
-        &mut first[..a],
-        &rest[next..end],
-        &mut second[..b],
-        &rest[end..],
-    )
-}
-
-fn list_holds(h: CaseHead, text: &[u8], fields: &[u8], list: &mut [i32], rest: &[u8]) -> bool {
-    numbers::fill(fields, list) && rest_holds(h, text, list, rest)
+    let first = &mut first[..a];
+    let second = &mut second[..b];
+    numbers::fill(&rest[..next], first)
+        && numbers::fill(&rest[next..end], second)
+        && call_holds(h, text, list, first, second, &rest[end..])
 }
 
 // Everything after the text is in `rest`.
@@ -127,7 +113,8 @@ fn numbers_hold(h: CaseHead, text: &[u8], rest: &[u8]) -> bool {
         return false;
     }
     let mut list = [0i32; 2056];
-    list_holds(h, text, &rest[..at], &mut list[..l], &rest[at..])
+    let list = &mut list[..l];
+    numbers::fill(&rest[..at], list) && rest_holds(h, text, list, &rest[at..])
 }
 
 fn case_holds(h: CaseHead, case: &[u8]) -> bool {
@@ -135,7 +122,7 @@ fn case_holds(h: CaseHead, case: &[u8]) -> bool {
     cases::heads::is_right(h) && t <= case.len() && numbers_hold(h, &case[..t], &case[t..])
 }
 
-// Reads until `space` is full, the input ends or a read fails, and says how many bytes it put there.
+// Reads until `space` is full, the input ends or a read fails, and says how many bytes it put there. No `for`: how many a read brings is not known before.
 fn read_full(rt: &HostRuntime, space: &mut [u8]) -> usize
     ensures { IsPrefixLen result space.new }
 {
@@ -170,7 +157,7 @@ struct Tally {
 
 fn try_all(rt: &HostRuntime, space: &mut [u8]) -> Tally {
     let mut t = Tally { cases: 0, wrong: 0 };
-    for _ in 0..1000000u64 {
+    for _ in 0..u64::MAX {
         let mut head = [0u8; 54];
         if read_full(rt, &mut head) == 0 {
             break;

@@ -1,6 +1,6 @@
 // A writer of bytes and decimals into a lent text. Each call writes from index `at` on and gives the index after what it wrote.
 // (A struct of `out` and `at` with methods proves too, and is no plainer: each promise would still ask for the room of its own text and say what
-// stands before it, in longer words.)
+// stands before it, in longer words. Decimals are written by hand: only to a `String`, for which there is no heap, does `write!` promise its bytes.)
 #![tactic(auto)]
 
 ghost use Rattle.std.specs.Prelude.{◌≡◌, ◌+◌, ◌≤◌, nat_abs, length};

@@ -670,6 +670,19 @@ fn declared_names(text: &str, kinds: &[&str]) -> Vec<String> {
     names.map(str::to_string).collect()
 }
 
+/// The names of structs whose model has a value of the same name, a record in the
+/// definitions of their crate: for a reader they are one thing.
+fn names_of_values(code: &str) -> Vec<&str> {
+    code.split("\nimpl Model for ")
+        .skip(1)
+        .filter_map(|part| {
+            let (name, rest) = part.split_once(" {")?;
+            let (_, value) = rest.split_once("ghost Value = { ")?;
+            value.starts_with(&format!("{name} }}")).then_some(name)
+        })
+        .collect()
+}
+
 #[test]
 fn a_name_leads_to_one_place() {
     let mut places: BTreeMap<String, Vec<PathBuf>> = BTreeMap::new();
@@ -678,7 +691,12 @@ fn a_name_leads_to_one_place() {
             let folder = path.parent().expect("a folder");
             let room = folder.file_name().expect("a name").to_string_lossy();
             let names = match (ending, room.as_ref()) {
-                ("rt", _) => declared_names(&read(&path), &["struct ", "enum "]),
+                ("rt", _) => {
+                    let code = read(&path);
+                    let mut names = declared_names(&code, &["struct ", "enum "]);
+                    names.retain(|name| !names_of_values(&code).contains(&name.as_str()));
+                    names
+                }
                 // The proof of a function, in a folder of its own, is cited by no page.
                 (_, "specs" | "proofs") => defined_names(&read(&path)),
                 _ => continue,

@@ -1,13 +1,11 @@
-use Rattle.std.proofs.Common.{arith, ◌≡◌, ◌∙◌, length, ap, sym}
-use Rattle.std.proofs.lemmas.Result.{err_from_is_err_and}
-use Rattle.results.specs.Results.{leaves}
+use Rattle.std.proofs.Common.{arith, ◌∙◌, length}
+use Rattle.sections.proofs.HandedOn.{handed-on}
 use Rattle.circuit.proofs.CircuitLaws.{text-stop, fault-stop, served, served-spectrum}
 use Rattle.circuit.proofs.circuit_spectrum.Goals as goal
 
 pub returns-in_err-d-clause-value : goal.returns-in_err-d-clause-value
 returns-in_err-d-clause-value c =
-    let p = err_from_is_err_and c.from_residual.result c.from_residual.ensures.1 in
-    rw (p.1, p.2) (text-stop c.args.text.now c.args.fault (length c.args.out.now) c.in_err-d.ensures)
+    rw (handed-on c.from_residual.ensures.1) (text-stop c.args.text.now c.args.fault (length c.args.out.now) c.in_err-d.ensures)
 
 pub returns-then-faults-which-clause-value : goal.returns-then-faults-which-clause-value
 returns-then-faults-which-clause-value c =

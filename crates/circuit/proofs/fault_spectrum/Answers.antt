@@ -1,4 +1,4 @@
-use Rattle.std.proofs.Common.{rules, arith, ◌≡◌, ◌∙◌, ◌^◌, ◌≤◌, List, ℤ, length, ap, sym, subst}
+use Rattle.std.proofs.Common.{◌∙◌, length, ap, sym, subst}
 use Rattle.integer.specs.Tab.{Within}
 use Rattle.circuit.proofs.CircuitLaws.{rows_fit, spectrum-room}
 use Rattle.circuit.proofs.fault_spectrum.Goals as goal

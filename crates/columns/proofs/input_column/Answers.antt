@@ -1,4 +1,4 @@
-use Rattle.std.proofs.Common.{ap, ◌∙◌, ◌+◌, arith}
+use Rattle.std.proofs.Common.{ap, ◌∙◌, arith}
 use Rattle.columns.specs.Steps.{seen_as, input_rule}
 use Rattle.columns.proofs.AppliedInputs.{applied-both}
 use Rattle.columns.proofs.Making.{column-start, column-turn, column_whole}
@@ -10,8 +10,8 @@ loop-x-init c = column-start _ _ _
 pub loop-x-preserved : goal.loop-x-preserved
 loop-x-preserved c =
     let a = c.args in
-    column-turn a.values.now (a.input + 1) (input_rule a.s a.p a.q) c.loop-x.x c.loop-x.invariant c.shows.result (omega arith)
-    (c.shows.ensures ∙ ap (seen_as a.s) (applied-both c.loop-x.x a.p a.q))
+    column-turn a.values.now a.column.line (input_rule a.column.seen a.p a.q) c.loop-x.x c.loop-x.invariant c.shows.result (omega arith)
+    (c.shows.ensures ∙ ap (seen_as a.column.seen) (applied-both c.loop-x.x a.p a.q))
 
 pub returns : goal.returns
 returns c = column_whole _ _ _ (omega arith) c.loop-x.invariant

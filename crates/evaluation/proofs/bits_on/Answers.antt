@@ -6,7 +6,7 @@ pub loop-line-init : goal.loop-line-init
 loop-line-init g c = no_gate_bits _ _ _
 
 pub with_bit-bits-requires : goal.with_bit-bits-requires
-with_bit-bits-requires g c = few_bits _ _ _ _ _ _ c.loop-line.invariant c.loop-line-test.true c.requires.1
+with_bit-bits-requires g c = few_bits _ _ _ _ _ _ c.loop-line.invariant c.loop-line-test.true c.requires.0
 
 pub loop-line-preserved : goal.loop-line-preserved
 loop-line-preserved g c =

@@ -1,19 +1,17 @@
--- The number of lines that the gate reads says which column is made.
-use Rattle.kinds.specs.declared.Kind.TheVariants.{Not}
-use Rattle.gate_lines.specs.GateItems.{lines_read}
-use Rattle.evaluation.proofs.Widths.{reads-one, reads_two, reads_three, reads-four, alone-not, column-told, column-as}
+-- The lines that are there say which column is made.
+use Rattle.evaluation.proofs.Widths.{column-read, column-alone}
 use Rattle.evaluation.proofs.gate_column.Goals as goal
 
-pub returns-then-b-eq0 : goal.returns-then-b-eq0
-returns-then-b-eq0 c =
-    let g = c.args.gate in
-    column-told _ _ _ _ _ (lines_read g) (alone-not g.kind g.b c.requires.3.second c.if-b-eq0.true) (column-as _ _ _ _ _ (lines_read g) Not (reads-one g c.if-b-eq0.true) c.column.ensures)
+pub returns-in-None-default-default : goal.returns-in-None-default-default
+returns-in-None-default-default c = column-alone _ _ _ _ _ c.gate.inside c.gate.invariant c.gate.view_is c.requires.second c.in-None-default-default.is-0 c.column.ensures
 
-pub returns-then-c-eq0 : goal.returns-then-c-eq0
-returns-then-c-eq0 c = column-as _ _ _ _ _ _ _ (reads_two c.args.gate c.if-b-eq0.false c.if-c-eq0.true) c.column_by_kind.ensures
+pub returns-in-Some-None-default : goal.returns-in-Some-None-default
+returns-in-Some-None-default c = let w = c.in-Some-None-default in column-read _ _ _ _ _ c.gate.inside c.gate.invariant c.gate.view_is (rw (w.is-0, w.is-1) c.column_by_kind.ensures)
 
-pub returns-then-d-eq0 : goal.returns-then-d-eq0
-returns-then-d-eq0 c = column-as _ _ _ _ _ _ _ (reads_three c.args.gate c.if-b-eq0.false c.if-c-eq0.false c.if-d-eq0.true) c.column_by_kind-then-d-eq0.ensures
+pub returns-in-Some-Some-None : goal.returns-in-Some-Some-None
+returns-in-Some-Some-None c =
+    let w = c.in-Some-Some-None in column-read _ _ _ _ _ c.gate.inside c.gate.invariant c.gate.view_is (rw (w.is-0, w.is-1, w.is-2) c.column_by_kind-in-Some-Some-None.ensures)
 
-pub returns-else-d-eq0 : goal.returns-else-d-eq0
-returns-else-d-eq0 c = column-as _ _ _ _ _ _ _ (reads-four c.args.gate c.if-b-eq0.false c.if-c-eq0.false c.if-d-eq0.false) c.column_by_kind-else-d-eq0.ensures
+pub returns-in-Some-Some-Some : goal.returns-in-Some-Some-Some
+returns-in-Some-Some-Some c =
+    let w = c.in-Some-Some-Some in column-read _ _ _ _ _ c.gate.inside c.gate.invariant c.gate.view_is (rw (w.is-0, w.is-1, w.is-2) c.column_by_kind-in-Some-Some-Some.ensures)

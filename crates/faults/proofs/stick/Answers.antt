@@ -1,12 +1,16 @@
-use Rattle.std.proofs.Common.{◌≡◌, ◌+◌, ◌-◌, ◌^◌, ◌∙◌, ℤ, ◌+ℤ◌, sym, ap, ap₂, length, of_z, w64, arith}
+use Rattle.std.proofs.Common.{◌≡◌, ◌+◌, ◌*◌, ◌-◌, ◌%◌, ◌^◌, ◌<◌, ◌∙◌, ℤ, ◌+ℤ◌, sym, ap, ap₂, length, of_z, w64, arith}
 use Rattle.std.proofs.lemmas.Int.{ints, to_z-of_z}
 use Rattle.integer.specs.Tab.{nth}
 use Rattle.integer.specs.Sum.{signed}
 use Rattle.integer.proofs.Machine.{reads-back}
 use Rattle.screen.proofs.Screens.{inputs-most}
 use Rattle.faults.proofs.OneStuck.{stuck-to, stuck-start, stuck-end, partner-below, partner-in, partner-ahead, read-ahead, stick-turn, once-joined, once-named}
-use Rattle.faults.proofs.stick.Goals.{then-i-shift-eq0, else-i-shift-eq0}
+use Rattle.faults.proofs.stick.Goals.{Then-i-shift-eq0, then-i-shift-eq0, else-i-shift-eq0}
 use Rattle.faults.proofs.stick.Goals as goal
+
+-- the row that i is joined with is in the list
+partner : (c : Then-i-shift-eq0) → c.loop-i.i + (1 * 2 ^ (c.args.input - 1)) % 2 ^ 64 < length c.args.a.now
+partner c = partner-in c.args.input (length c.args.a.now) c.loop-i.i c.requires.le_input c.loop-i-test.true c.if-i-shift-eq0.true
 
 pub overflow_shl-bit : goal.overflow_shl-bit
 overflow_shl-bit c = omega (arith, inputs-most (length c.args.a.now))
@@ -18,13 +22,13 @@ pub overflow_shr-i : goal.overflow_shr-i
 overflow_shr-i c = omega (arith, inputs-most (length c.args.a.now))
 
 pub overflow_add-i : goal.overflow_add-i
-overflow_add-i c = let p = partner-in c.args.input (length c.args.a.now) c.loop-i.i c.requires.le_input c.loop-i-test.true c.if-i-shift-eq0.true in omega arith
+overflow_add-i c = omega (arith, partner (goal.at.overflow_add-i c).Then-i-shift-eq0)
 
 pub offset_bounds-a-i-then-i-shift-eq0 : goal.offset_bounds-a-i-then-i-shift-eq0
-offset_bounds-a-i-then-i-shift-eq0 c = let p = partner-in c.args.input (length c.args.a.now) c.loop-i.i c.requires.le_input c.loop-i-test.true c.if-i-shift-eq0.true in omega arith
+offset_bounds-a-i-then-i-shift-eq0 c = omega (arith, partner (goal.at.offset_bounds-a-i-then-i-shift-eq0 c).Then-i-shift-eq0)
 
 pub slice_copy_out-joined-then-i-shift-eq0 : goal.slice_copy_out-joined-then-i-shift-eq0
-slice_copy_out-joined-then-i-shift-eq0 c = let p = partner-in c.args.input (length c.args.a.now) c.loop-i.i c.requires.le_input c.loop-i-test.true c.if-i-shift-eq0.true in omega arith
+slice_copy_out-joined-then-i-shift-eq0 c = omega (arith, partner (goal.at.slice_copy_out-joined-then-i-shift-eq0 c).Then-i-shift-eq0)
 
 pub joined-requires : goal.joined-requires
 joined-requires c =

@@ -4,4 +4,4 @@ use Rattle.reading.specs.Readings.{agrees, count_to}
 use Rattle.reading.proofs.count_of.Given as goal
 
 abbrev pub invariant-loop-row : goal.invariant-loop-row
-invariant-loop-row l = l.count ≡ count_to l.row (agrees l.mask l.values)
+invariant-loop-row l = l.count ≡ count_to l.row (agrees l.fixed.mask l.fixed.values)

@@ -1,4 +1,4 @@
-use Rattle.std.proofs.Common.{rules, arith, length}
+use Rattle.std.proofs.Common.{arith}
 use Rattle.report.proofs.ReportLaws.{Short, short-out, short-work, report-served}
 use Rattle.report.proofs.report.Goals as goal
 use Rattle.report.proofs.report.Goals.{then-out-lt-REPORT_BYTES-via-then-out-lt-REPORT_BYTES, then-out-lt-REPORT_BYTES-via-else-out-lt-REPORT_BYTES+then-work-lt-WORKING_NUMBERS}

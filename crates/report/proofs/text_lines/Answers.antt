@@ -1,10 +1,15 @@
-use Rattle.std.proofs.Common.{rules, ◌≡◌, ◌∙◌, ◌≤◌, arith, ap, length, take, subst, List, ℕ}
-use lib.Seq.{length-take-le}
+use Rattle.std.proofs.Common.{◌∙◌, ap, length, subst, List, ℕ}
 use Rattle.writing.specs.Writing.{placed}
-use Rattle.planner.specs.PlanCall.{Verdict, WorkKept}
+use Rattle.planner.specs.PlanCall.{Verdict, plan_verdict, WorkKept}
 use Rattle.planner.proofs.PlanLaws.{kept, verdict-served}
 use Rattle.report.proofs.ReportLaws.{text-refuses, text-unplanned, text-planned}
 use Rattle.report.proofs.text_lines.Goals as goal
+use Rattle.report.proofs.text_lines.Goals.{After-plan_device}
+
+-- what planning leaves of the working numbers
+used : (c : After-plan_device) → WorkKept (plan_verdict c.args.text.now (length c.args.work.now)) c.args.work.now c.plan_device.new.work
+used c =
+    subst (λ (v : Verdict). WorkKept v c.args.work.now c.plan_device.new.work) (verdict-served c.args.text.now (length c.args.work.now) c.in-Ok.d c.in-Ok.ensures c.requires.1) c.plan_device.ensures.work_kept
 
 pub refused_line-requires : goal.refused_line-requires
 refused_line-requires c = (c.requires.0, (text-refuses c.args.text.now c.in-Err.refusal c.in-Err.ensures).0)
@@ -18,22 +23,18 @@ returns-in-Err c =
       work_kept = kept _ c.args.work.now;
     }
 
-pub shared_ref_as_front-plan_lines : goal.shared_ref_as_front-plan_lines
-shared_ref_as_front-plan_lines c = (text-planned c.args.text.now c.in-Ok.d c.in-Ok.ensures c.in-Ok-plan_device.set c.in-Ok-plan_device.ensures.value).0
-
 pub plan_lines-requires-clause-labels_low : goal.plan_lines-requires-clause-labels_low
 plan_lines-requires-clause-labels_low c =
     let p = text-planned c.args.text.now c.in-Ok.d c.in-Ok.ensures c.in-Ok-plan_device.set c.in-Ok-plan_device.ensures.value in
-    let four : length c.in-Ok-plan_device.set.labels ≡ 4 = search rules in
-    (p.1, omega (arith, p.0, length-take-le c.in-Ok-plan_device.set.size c.in-Ok-plan_device.set.labels (omega (arith, p.0, four))))
+    rw c.labels.ensures.value (p.1, p.0)
 
 pub returns-in-Ok-plan_device : goal.returns-in-Ok-plan_device
 returns-in-Ok-plan_device c =
     let same = (text-planned c.args.text.now c.in-Ok.d c.in-Ok.ensures c.in-Ok-plan_device.set c.in-Ok-plan_device.ensures.value).2 in
     record {
-      value = c.plan_lines.ensures.value ∙ ap length same;
-      out_after = c.plan_lines.ensures.out_after ∙ ap (λ (l : List ℕ). placed 0 l c.args.out.now) same;
-      work_kept = subst (λ (v : Verdict). WorkKept v c.args.work.now c.plan_device.new.work) (verdict-served c.args.text.now (length c.args.work.now) c.in-Ok.d c.in-Ok.ensures c.requires.1) c.plan_device.ensures.work_kept;
+      value = c.plan_lines.ensures.value ∙ rw c.labels.ensures.value (ap length same);
+      out_after = c.plan_lines.ensures.out_after ∙ rw c.labels.ensures.value (ap (λ (l : List ℕ). placed 0 l c.args.out.now) same);
+      work_kept = used (goal.at.returns-in-Ok-plan_device c).After-plan_device;
     }
 
 pub refused_line-requires-in-Err-plan_device : goal.refused_line-requires-in-Err-plan_device
@@ -46,5 +47,5 @@ returns-in-Err-plan_device c =
     record {
       value = c.refused_line-in-Err-plan_device.ensures.value ∙ ap length same;
       out_after = c.refused_line-in-Err-plan_device.ensures.out_after ∙ ap (λ (l : List ℕ). placed 0 l c.args.out.now) same;
-      work_kept = subst (λ (v : Verdict). WorkKept v c.args.work.now c.plan_device.new.work) (verdict-served c.args.text.now (length c.args.work.now) c.in-Ok.d c.in-Ok.ensures c.requires.1) c.plan_device.ensures.work_kept;
+      work_kept = used (goal.at.returns-in-Err-plan_device c).After-plan_device;
     }

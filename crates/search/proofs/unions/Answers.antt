@@ -11,6 +11,3 @@ loop-i-preserved c =
     let l = c.loop-i in
     let back : l.i - 1 + 1 ≡ l.i = omega arith in
     (omega arith, simp length-set l.invariant.1, rw back (unions-more c.args.masks.now l.rest l.invariant.1 l.i c.loop-i-test.true l.invariant.0 l.invariant.2))
-
-pub returns : goal.returns
-returns c = record { long = c.loop-i.invariant.1; each = λ i h. c.loop-i.invariant.2 i (omega arith) h }

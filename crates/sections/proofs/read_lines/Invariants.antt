@@ -1,4 +1,4 @@
--- What all the lines say is what the lines from `at` on say, after the items so far.
+-- What all the lines say is what the lines of `rest` say, after the items so far.
 use Rattle.std.proofs.Common.{length}
 use Rattle.sections.proofs.LineLoops.{ReadSoFar}
 use Rattle.sections.proofs.read_lines.Given as goal
@@ -6,4 +6,4 @@ use Rattle.sections.proofs.read_lines.Given as goal
 abbrev pub invariant-loop-j : goal.invariant-loop-j
 invariant-loop-j g l =
     let k = g.K.LineKind in
-    ReadSoFar (k.refusal l.kind) (k.item l.kind) l.text l.from l.place (length l.fn.items) l.items l.j-counter l.at
+    ReadSoFar (k.refusal l.kind) (k.item l.kind) l.text l.place (length l.fn.out) l.out l.j-counter l.rest

@@ -1,4 +1,4 @@
-use Rattle.std.proofs.Common.{rules, arith, ℕ, ℤ, ◌≡◌, ◌+◌, ◌^◌, ◌<◌, length, get_or, nat_abs, to_z, of_z, w16, ap, ap₂, sym, ◌∙◌}
+use Rattle.std.proofs.Common.{rules, arith, ℕ, ℤ, ◌≡◌, length, get_or, w16, ap, ap₂, ◌∙◌}
 use mir.ValLaws.{to_z-of_z}
 use Rattle.integer.specs.Sum.{sum_to}
 use Rattle.statements.specs.Items.{no_output}

@@ -1,4 +1,4 @@
-use Rattle.std.proofs.Common.{rules, arith, ◌≡◌, ◌∙◌, w32}
+use Rattle.std.proofs.Common.{rules, arith, ◌∙◌, w32}
 use mir.ValLaws.{to_z-of_z}
 use Rattle.integer.specs.Tab.{tab}
 use Rattle.integer.proofs.Tabs.{write-turn}

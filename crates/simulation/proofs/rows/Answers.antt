@@ -1,4 +1,4 @@
-use Rattle.std.proofs.Common.{rules, arith, List, ◌≡◌, ◌≤◌, length, ap, ◌∙◌}
+use Rattle.std.proofs.Common.{arith, List, length, ap, ◌∙◌}
 use Rattle.integer.specs.Tab.{tab}
 use Rattle.statements.specs.declared.Output.{Output}
 use Rattle.simulation.specs.Steps.{read_sum}
@@ -9,7 +9,7 @@ use Rattle.simulation.proofs.rows.Goals as goal
 pub input_columns-requires : goal.input_columns-requires
 input_columns-requires c =
     let w = c.inputs.ensures.well_formed in
-    (search rules, omega (arith, w.inputs-high), omega (arith, row-count-few c.args.c.now w), blank-columns 14848 _ c.args.f)
+    (omega (arith, w.inputs-high), omega (arith, row-count-few c.args.c.now w), blank-columns 14848 _ c.args.f)
 
 pub returns : goal.returns
 returns c =

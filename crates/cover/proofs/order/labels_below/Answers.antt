@@ -1,15 +1,10 @@
-use Rattle.std.proofs.Common.{◌∙◌, refl, ap, length, take, arith}
+use Rattle.std.proofs.Common.{◌∙◌, ap, length, take, arith}
 use mathlib.Core.Path.{ap₂}
 use Rattle.std.proofs.Math.ListN.{length-set}
-use Rattle.integer.specs.ListTests.{keep}
 use Rattle.cover.proofs.LabelOrder.{listed, label-passed, all_listed}
 use Rattle.cover.proofs.Table.{label_table, table_at}
 use Rattle.cover.proofs.order.labels_below.Goals as goal
 use Rattle.cover.proofs.order.labels_below.Goals.{then-label-n, else-label-n}
-
-pub loop-label-init : goal.loop-label-init
-unfolding keep
-loop-label-init c = (omega arith, refl, refl)
 
 pub loop-label-preserved : goal.loop-label-preserved
 unfolding label_table

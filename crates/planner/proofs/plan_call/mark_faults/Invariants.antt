@@ -3,4 +3,4 @@ use Rattle.planner.proofs.PlanLaws.{MarkedBelow}
 use Rattle.planner.proofs.plan_call.mark_faults.Given as goal
 
 abbrev pub invariant-loop-f : goal.invariant-loop-f
-invariant-loop-f l = MarkedBelow l.d l.f l.masks
+invariant-loop-f l = MarkedBelow l.d l.sound l.labels l.f l.masks

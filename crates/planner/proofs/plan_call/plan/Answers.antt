@@ -1,14 +1,13 @@
-use Rattle.std.proofs.Common.{◌≡◌, ◌∙◌, ap, length, subst, arith, List, ℕ}
-use Rattle.std.proofs.lemmas.Result.{err_from_is_err_and}
+use Rattle.std.proofs.Common.{◌∙◌, ap, length, subst, arith}
+use Rattle.sections.proofs.HandedOn.{handed-on}
 use Rattle.planner.specs.PlanCall.{Verdict, plan_numbers, plan_answer, WorkKept}
-use Rattle.planner.proofs.PlanLaws.{verdict-text, verdict-room, verdict-served, kept}
+use Rattle.planner.proofs.PlanLaws.{verdict-text, verdict-room, verdict-served}
 use Rattle.planner.proofs.plan_call.plan.Goals as goal
 
 pub returns-in_err-d-clause-value : goal.returns-in_err-d-clause-value
 unfolding plan_answer
 returns-in_err-d-clause-value c =
-    let p = err_from_is_err_and c.from_residual.result c.from_residual.ensures.1 in
-    rw (p.1, p.2) (ap plan_numbers (verdict-text c.args.text.now (length c.args.work.now) c.in_err-d.ensures))
+    rw (handed-on c.from_residual.ensures.1) (ap plan_numbers (verdict-text c.args.text.now (length c.args.work.now) c.in_err-d.ensures))
 
 pub returns-then-work-lt-WORKING_NUMBERS-clause-value : goal.returns-then-work-lt-WORKING_NUMBERS-clause-value
 unfolding plan_answer

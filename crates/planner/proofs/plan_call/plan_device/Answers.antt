@@ -1,4 +1,4 @@
-use Rattle.std.proofs.Common.{rules, ◌≡◌, ◌∙◌, ◌+◌, ◌^◌, ◌≤◌, ℕ, arith, ap, length}
+use Rattle.std.proofs.Common.{rules, ◌∙◌, ◌^◌, ◌≤◌, ℕ, arith, ap}
 use Rattle.cover.specs.Order.{labels_below}
 use Rattle.planner.proofs.PlanLaws.{front-labels, front-used}
 use Rattle.planner.proofs.plan_call.plan_device.Goals as goal

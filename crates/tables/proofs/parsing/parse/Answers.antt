@@ -1,5 +1,5 @@
-use Rattle.std.proofs.Common.{rules, arith, ap, subst, ◌∙◌, drop}
-use Rattle.std.proofs.lemmas.Result.{err_from_is_err_and}
+use Rattle.std.proofs.Common.{rules, arith, ap, subst, ◌∙◌}
+use Rattle.sections.proofs.HandedOn.{handed-on}
 use Rattle.tables.specs.TableHeads.{TableHeadRight}
 use Rattle.tables.specs.TableParsing.{table_body}
 use Rattle.tables.proofs.TableAcceptance.{table-head-fits}
@@ -11,16 +11,14 @@ returns-then-text-gt-TEXT_BYTES c = table-too-long c.args.text.now (omega arith)
 
 pub returns-in_err-line : goal.returns-in_err-line
 returns-in_err-line c =
-    let p = err_from_is_err_and c.from_residual.result c.from_residual.ensures.1 in
-    rw (p.1, p.2) (table-no-head c.args.text.now (omega arith) c.in_err-line.field-0.0 c.in_err-line.ensures)
+    rw (handed-on c.from_residual.ensures.1) (table-no-head c.args.text.now (omega arith) c.in_err-line.field-0.0 c.in_err-line.ensures)
 
 pub returns-in_err-head : goal.returns-in_err-head
 returns-in_err-head c =
-    let p = err_from_is_err_and c.from_residual-in_err-head.result c.from_residual-in_err-head.ensures.1 in
-    rw (p.1, p.2) (table-head-stop c.args.text.now (omega arith) c.in_ok-line.at c.in_ok-line.ensures c.in_err-head.field-0.0 (search rules) (search rules))
+    rw (handed-on c.from_residual-in_err-head.ensures.1) (table-head-stop c.args.text.now (omega arith) c.in_ok-line.rest.now c.in_ok-line.ensures c.in_err-head.field-0.0 (search rules) (search rules))
 
 pub body-requires : goal.body-requires
 body-requires c = subst TableHeadRight (search rules) (table-head-fits c.in_ok-line.line.now (search rules))
 
 pub returns : goal.returns
-returns c = c.body.ensures ∙ ap (λ h. table_body h (drop c.in_ok-line.at c.args.text.now)) (search rules) ∙ table-head-passed c.args.text.now (omega arith) c.in_ok-line.at c.in_ok-line.ensures (search rules)
+returns c = c.body.ensures ∙ ap (λ h. table_body h c.in_ok-line.rest.now) (search rules) ∙ table-head-passed c.args.text.now (omega arith) c.in_ok-line.rest.now c.in_ok-line.ensures (search rules)

@@ -1,4 +1,4 @@
-use Rattle.std.proofs.Common.{◌≡◌, ◌∙◌, ◌^◌, ◌≤◌, arith, length, ap, sym, subst, ℕ}
+use Rattle.std.proofs.Common.{◌∙◌, ◌^◌, arith, ap, sym, subst, ℕ}
 use Rattle.simulation.specs.Rows.{rows_of}
 use Rattle.lookup.specs.TableRows.{table_rows}
 use Rattle.lookup.specs.StuckPairs.{OfInputs}
