@@ -1,5 +1,4 @@
 pub mod Bits
 pub mod Cases
-pub mod Formulas
 pub mod TruthValues
 pub mod TwoBits

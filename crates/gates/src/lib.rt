@@ -2,8 +2,9 @@
 //
 // Bits are a number behind a leading 1, A's the highest, as note 3 of document 02 has them: `0b1_0110` is A, B, C, D = 0, 1, 1, 0. Each kind has a file with a
 // line for each of its cases, two bits counting up, then three, then four, and one for `not`: 170 in all, those of `gate_table` in its order. The last arm of each
-// `match` is never taken. The files stay apart, though they differ in their values alone: note 3 asks for cases that a reader lays beside a data sheet. Six of them
-// ask for `Several` bits: a struct around the number would say it, and be made and taken apart on each row.
+// `match`, which a number wants, is shown never to be taken (`prove!(false)`): without one of the cases it would be. It has a value since with `unreachable!()` the
+// loops over rows are no vector code. The files stay apart, though they differ in their values alone: note 3 asks for cases that a reader lays beside a data sheet.
+// Six of them ask for `Several` bits: a struct around the number would say it, and be made and taken apart on each row.
 #![tactic(auto)]
 
 mod and;

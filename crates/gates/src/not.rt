@@ -11,6 +11,9 @@ pub fn value(bits: u32) -> bool
     match bits {
         0b1_0 => true,
         0b1_1 => false,
-        _ => false,
+        _ => {
+            prove!(false);
+            false
+        }
     }
 }

@@ -37,6 +37,9 @@ pub fn value(bits: u32) -> bool
         0b1_1101 => false,
         0b1_1110 => false,
         0b1_1111 => true,
-        _ => false,
+        _ => {
+            prove!(false);
+            false
+        }
     }
 }

@@ -37,6 +37,9 @@ pub fn value(bits: u32) -> bool
         0b1_1101 => true,
         0b1_1110 => true,
         0b1_1111 => false,
-        _ => false,
+        _ => {
+            prove!(false);
+            false
+        }
     }
 }
