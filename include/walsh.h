@@ -41,7 +41,7 @@ extern "C" {
 #define WALSH_MAX_GATES 48
 #define WALSH_MAX_LINES 56 /* the inputs and the gates; of a table the inputs alone are lines */
 #define WALSH_MAX_OUTPUTS 4
-#define WALSH_MAX_WEIGHT 15
+#define WALSH_MAX_WEIGHT 15 /* the size of a weight, of either sign; 0 is none */
 #define WALSH_MAX_FAULTS 32
 #define WALSH_MAX_STUCK 3          /* stuck lines of one fault, stuck inputs or opened lines of one call */
 #define WALSH_MAX_LABELS 4         /* labels of a plan, and the largest cap */
@@ -74,7 +74,7 @@ enum walsh_number {
 enum walsh_kind {
     WALSH_NO_READING = 0,       /* with a refusal */
     WALSH_PLAIN_SYNDROME = 1,   /* one output of weight 1 */
-    WALSH_WEIGHTED_SUM = 2,     /* more outputs, or a weight above 1: the mean of weighted sums */
+    WALSH_WEIGHTED_SUM = 2,     /* more outputs, or a weight other than 1: the mean of weighted sums; may be negative */
     WALSH_CONSTRAINED_VALUE = 3 /* some inputs fixed, whatever the outputs */
 };
 

@@ -1,7 +1,7 @@
 /*
  * Every function of include/walsh.h, done and refused, each answer field by field. tests/run compiles it as C99 and as C++ and holds what it
- * prints to tests/calls.expected, which was worked out by hand from document 01, for tables, wide gates and bridges from notes 1, 2 and 8 of
- * document 02, and not taken from the library. The comments say where answers come from; "paper" is document 01. Places where a result is lent
+ * prints to tests/calls.expected, which was worked out by hand from document 01, for tables, wide gates, weights with a sign and bridges from notes 1, 2, 4
+ * and 8 of document 02, and not taken from the library. The comments say where answers come from; "paper" is document 01. Places where a result is lent
  * hold MARK before each call, so a number too many or too few shows.
  */
 #include <stdio.h>
@@ -71,6 +71,13 @@ static struct walsh_part (*const field)(const uint8_t *, size_t, size_t) = walsh
 #define WIDE_AND "circuit,3,1,1,2,1\ngate,and,1,2,3\noutput,4,1\nfault,1,0\nfault,4,1\n"
 /* Four inputs and one gate, which drives line 5 and is stuck at 0. */
 #define WIDE_OF(GATE) "circuit,4,1,1,1,1\n" GATE "\noutput,5,1\nfault,5,0\n"
+
+/* The listing with its output subtracted. */
+#define SUBTRACTED "circuit,3,4,1,2,2\ngate,not,2,0\ngate,and,1,2\ngate,and,3,4\ngate,or,5,6\noutput,7,-1\nfault,2,0\nfault,2,1\n"
+/* An input with two weights, which cancel. */
+#define CANCELLED "circuit,1,0,2,1,1\noutput,1,7\noutput,1,-7\nfault,1,0\n"
+/* An input of this weight, stuck at 0. */
+#define WEIGHED(WEIGHT) "circuit,1,0,1,1,1\noutput,1," WEIGHT "\nfault,1,0\n"
 
 static int32_t out[2 * WALSH_MAX_LIST];
 static int32_t list[2 * WALSH_MAX_LIST];
@@ -714,6 +721,43 @@ static void fields(void)
     put_part("field 1 of a table", field(TEXT(TABLE), 1));
 }
 
+/* Weights below 0. */
+static void signed_weights(void)
+{
+    size_t all = WALSH_WORKING_NUMBERS;
+
+    /* Each number of the listing negated, and the same label. */
+    put_reply("subtracted, sound", circuit(TEXT(SUBTRACTED), 0, out, 9), 9);
+    put_reply("subtracted, fault 2", circuit(TEXT(SUBTRACTED), 2, out, 9), 9);
+    put_signature("subtracted, plan", plan(TEXT(SUBTRACTED), work, all));
+    put_written("subtracted, report", report(TEXT(SUBTRACTED), bytes, sizeof bytes, work, all));
+    put_measured("subtracted, reading", reading(TEXT(SUBTRACTED), 0, 0));
+    /* With x2 at 1 the listing is x1; with x1 at 1 it is x2 + x3, and under fault 2 it is 1. A difference of 0 is +0. */
+    put_measured("subtracted, reading with x2 at 1", reading(TEXT(SUBTRACTED), 2, 2));
+    put_comparison("subtracted, fault 1", pair(TEXT(SUBTRACTED), 1, 0, 0));
+    put_comparison("subtracted, fault 2 with x1 at 1", pair(TEXT(SUBTRACTED), 2, 1, 1));
+    /* Rows 0 and 0: every fault is silent, and the mean is +0. */
+    put_reply("cancelled, sound", circuit(TEXT(CANCELLED), 0, out, 3), 3);
+    put_signature("cancelled, plan", plan(TEXT(CANCELLED), work, all));
+    put_measured("cancelled, reading", reading(TEXT(CANCELLED), 0, 0));
+    /* Rows 0 and -15, and 0 and 2. */
+    put_reply("weight -15, sound", circuit(TEXT(WEIGHED("-15")), 0, out, 3), 3);
+    put_measured("weight -15, reading", reading(TEXT(WEIGHED("-15")), 0, 0));
+    put_measured("weight 2, reading", reading(TEXT(WEIGHED("2")), 0, 0));
+
+    put_output("output, smallest weight", 1, -WALSH_MAX_WEIGHT);
+    put_output("output, smaller weight", 1, -WALSH_MAX_WEIGHT - 1);
+    put_output("output, weight 0", 1, 0);
+    put_refusal("output, weight -0", WEIGHED("-0"));
+    put_refusal("output, weight +1", WEIGHED("+1"));
+    put_refusal("output, two signs", WEIGHED("--1"));
+    put_refusal("output, a sign alone", WEIGHED("-"));
+    put_refusal("output, four digits and a sign", WEIGHED("-9999"));
+    put_refusal("output, five digits and a sign", WEIGHED("-10000"));
+    put_refusal("output, a line with a sign", "circuit,1,0,1,1,1\noutput,-1,16\nfault,1,0\n");
+    put_refusal("fault, a value with a sign", "circuit,1,0,1,1,1\noutput,1,-1\nfault,1,-0\n");
+}
+
 int main(void)
 {
     clear();
@@ -736,6 +780,7 @@ int main(void)
     tables_unread();
     bridges();
     wide_gates();
+    signed_weights();
     fields();
     return 0;
 }

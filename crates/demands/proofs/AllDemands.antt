@@ -13,6 +13,9 @@ use Rattle.gate_lines.proofs.FourFields.{four-fields}
 use Rattle.gates.proofs.TwoBits.{two-as-before}
 use Rattle.sections.proofs.BridgesWritten.{lines-as-before}
 use Rattle.netlist.proofs.NarrowGates.{gates-as-before}
+use Rattle.netlist.proofs.UnsignedOutputs.{outputs-as-before}
+use Rattle.statements.proofs.UnsignedWeights.{unsigned-line}
+use Rattle.writing.proofs.ReadBack.{signed-back, signed-only}
 use Rattle.statements.proofs.FormsMeant.{head-form, output-form, fault-form, bridge-form, fault-line-form}
 use Rattle.gate_lines.proofs.GateFormsMeant.{gate-form}
 use Rattle.statements.proofs.LineNumbers.{head-least, output-least, fault-least, bridge-least}
@@ -29,7 +32,7 @@ use Rattle.bridges.proofs.BridgedCall.{unhalved-first}
 use Rattle.circuit.specs.CircuitCall.{circuit_answer}
 use Rattle.circuit.proofs.CircuitLaws.{circuit-done}
 use Rattle.planner.proofs.Demanded.{demand-three}
-use Rattle.text.specs.Text.{before, field_of, line_end, same_bytes}
+use Rattle.text.specs.Text.{before, field_of, line_end, same_bytes, signed_number_of}
 use Rattle.text.proofs.Words.{same-equal, same_self}
 use Rattle.tables.specs.TableLines.{table_word, is_table}
 use Rattle.tables.specs.TableParsing.{TableParse, accepted_table, rejected_table, table_of}
@@ -45,7 +48,7 @@ use Rattle.devices.proofs.Descriptions.{table-text, circuit-text}
 use Rattle.devices.proofs.TextKinds.{table-unparsed}
 use Rattle.report.proofs.PrintedLabels.{printed-covers, printed-line}
 use Rattle.fixture.proofs.Exactly.{reading-exact, pair-exact}
-use Rattle.demands.specs.DemandOne.{TextsAnswered, TablesAnswered, KindsTold, GatesTold, BridgesTold, LinesNumbered, DemandOne}
+use Rattle.demands.specs.DemandOne.{TextsAnswered, TablesAnswered, KindsTold, GatesTold, OutputsTold, BridgesTold, LinesNumbered, DemandOne}
 use Rattle.demands.specs.DemandTwo.{DemandTwo}
 use Rattle.demands.specs.Demands.{Demands}
 use Rattle.demands.proofs.ListCalls.{spectrum-tested, rows-tested, coefficient-tested, stuck-tested, opened-tested, bridged-tested, writes-of, spectrum-zero, rows-zero, stuck-zero, opened-zero, bridged-zero, coefficient-zero}
@@ -129,6 +132,14 @@ bridges-told =
 gates-told : GatesTold
 gates-told = record { four-fields = four-fields; as_before = gates-as-before }
 
+outputs-told : OutputsTold
+outputs-told =
+    record {
+      no_sign = λ top l none. unsigned-line l none top;
+      as_before = outputs-as-before;
+      integer = λ field z. (signed-only field z, λ t. ap signed_number_of t.0 ∙ signed-back z t.1);
+    }
+
 lines-numbered : (l : List ℕ) → LinesNumbered l
 lines-numbered l =
     record {
@@ -148,6 +159,7 @@ demand-one =
       tables = tables-answered;
       kinds = kinds-told;
       gate-lines = gates-told;
+      output-lines = outputs-told;
       bridge-lines = bridges-told;
       lines = record { head = head-form; gate = gate-form; output = output-form; fault = fault-form; bridge = bridge-form; fault-line = fault-line-form; table-head = table-head-form; marks = mark-form };
       numbers = lines-numbered;

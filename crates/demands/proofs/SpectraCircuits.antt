@@ -5,17 +5,22 @@
 --   tables-right            the same of tables, with eq. 11 and 12 of document 004
 --   readings-right, case-right    whole sums and counts of readings, and the case of each
 use mathlib.Core.Path.{◌≡◌, refl, sym, ap, ◌∙◌}
-use mathlib.Core.Bool.{Bool, true, false, ◌||◌, or-true}
+use mathlib.Core.Bool.{Bool, true, false, not, ◌||◌, or-true, false≢true}
 use mathlib.Core.List.{List, [], ◌∷◌}
-use mathlib.Core.Logic.{◌⊎◌, inl, inr}
-use Prim.Native.Nat.{ℕ, zero, suc, ◌<◌, ◌≤◌, ◌^◌}
+use mathlib.Core.Logic.Iff
+use mathlib.Core.Logic.{◌↔◌, ◌⊎◌, ◌≢◌, inl, inr, ⊎_map}
+use Prim.Native.Nat.{ℕ, zero, suc, ◌<◌, ◌^◌}
 use native.Mathlib.Omega.{arith}
 use lib.Dec.{ltb}
 use lib.Ieee.{Float}
 use lib.IntN.{ℤ, pos}
 use lib.ListN.{length, get_or}
-use lib.Signed.{lt_z}
-use borrow.Author.Tests.{eq-eqb, ne_eqb, lt-ltb, le-ltb}
+use lib.Signed.{◌≤ℤ◌, ◌<ℤ◌}
+use borrow.Author.Tests.{eq-eqb, ne_eqb, lt-ltb, ltb-true}
+use Rattle.std.proofs.lemmas.Bool.Decides.{Decides-int_eq}
+use Rattle.std.proofs.lemmas.Int.{ints}
+use Rattle.std.specs.Ordering.{int_eq}
+use Rattle.integer.proofs.Bools.{either}
 use Rattle.integer.proofs.Tabs.{get_or-tab}
 use Rattle.screen.specs.Answers.{Answer, Done, Refused, answer_number, and_then, minus, screen_of}
 use Rattle.screen.proofs.Screens.{screen-not-11}
@@ -31,6 +36,7 @@ use Rattle.statements.specs.Items.{no_output, sound}
 use Rattle.statements.specs.declared.Output.{Output}
 use Rattle.netlist.specs.Circuits.{Netlist, fault_at}
 use Rattle.netlist.specs.Parsing.{accepted, parse_of}
+use Rattle.netlist.specs.WellFormed.{WellFormed}
 use Rattle.netlist.proofs.Acceptance.{well-formed}
 use Rattle.simulation.specs.Rows.{row_value, rows_of}
 use Rattle.tables.specs.Tables.{TruthTable, table_fault_at}
@@ -38,6 +44,8 @@ use Rattle.tables.specs.TableParsing.{accepted_table, table_of}
 use Rattle.tables.proofs.TableAcceptance.{table-right}
 use Rattle.lookup.specs.TableRows.{table_row}
 use Rattle.simulation.proofs.Equations.{input-lines, gate-lines}
+use Rattle.simulation.proofs.RowBounds.{rows-bounded, rows_few}
+use Rattle.circuit.proofs.CircuitLaws.{spectrum-bounded}
 use Rattle.simulation.proofs.Showing.{unbridged-shown}
 use Rattle.lookup.proofs.RowsOfTables.{sound-mark, table-row-is, stuck-row-is}
 use Rattle.lookup.proofs.FreeRows.{free-rows-half}
@@ -52,8 +60,8 @@ use Rattle.agreement.proofs.BridgedInputs.{bridge-rows, bridges-answer, bridges-
 use Rattle.agreement.proofs.BridgedTables.{table-bridge-rows, table-bridges-answer, table-bridges-agree}
 use Rattle.reading.proofs.AgreeingRows.{agrees-exactly}
 use Rattle.reading.specs.Readings.{ReadingAnswer, case_of, reading_number}
-use Rattle.fixture.specs.ReadingCall.{some_above_one, is_weighted, fault_mean, fixes_inputs, unless12, reading_answer, sum_of, row_count}
-use Rattle.demands.specs.DemandTwo.{SpectraRight, FaultySpectraRight, CircuitsRight, TablesRight, ReadingsRight, AboveOne, CaseRight}
+use Rattle.fixture.specs.ReadingCall.{some_not_one, is_weighted, fault_mean, fixes_inputs, unless12, reading_answer, sum_of, row_count}
+use Rattle.demands.specs.DemandTwo.{SpectraRight, FaultySpectraRight, CircuitsRight, TablesRight, ReadingsRight, weight_at, CaseRight}
 use Rattle.demands.proofs.ListCalls.{ZeroDone, screen-zero, spectrum-zero, rows-zero, stuck-zero, opened-zero, bridged-zero}
 
 -- ---- spectra
@@ -104,15 +112,20 @@ circuits-right text n e =
     record {
       rows = λ k x h. get_or-tab (2 ^ n.inputs) (row_value n (fault_at n k)) (pos 0) x h;
       spectrum = circuit-spectrum-is text n e;
+      row-values = λ k. rows-bounded n (fault_at n k) w;
+      coefficients = λ k h. rw (circuit-spectrum-is text n e k h) (spectrum-bounded (rows_of n (fault_at n k)) (rows_few n (fault_at n k) w) (rows-bounded n (fault_at n k) w));
       input-lines = λ k x i h. input-lines n (fault_at n k) x i h;
-      gate-lines = λ k x j h. gate-lines n (fault_at n k) x j (well-formed text n e) h;
+      gate-lines = λ k x j h. gate-lines n (fault_at n k) x j w h;
       unbridged = λ k x i none. unbridged-shown (fault_at n k) x i none;
       stuck-inputs = λ k named unbridged inputs-only. stuck-inputs-agree text n e k named.0 named.1 unbridged inputs-only;
       opened-lines = λ k named unbridged. opened-lines-agree text n e k named.0 named.1 unbridged;
-      bridged-rows = λ k named b. bridge-rows n (fault_at n k) (named-bridge-fault n k (well-formed text n e) named.0 named.1 b);
+      bridged-rows = λ k named b. bridge-rows n (fault_at n k) (named-bridge-fault n k w named.0 named.1 b);
       bridges = λ k named b. bridges-agree text n e k named.0 named.1 b;
       bridges-answer = λ k room named b. bridges-answer text n e k named.0 named.1 b room;
     }
+  where
+    w : WellFormed n
+    w = well-formed text n e
 
 -- ---- tables
 
@@ -138,39 +151,64 @@ pub readings-right : (text : List ℕ) (n : Netlist) (mask values : ℕ) → par
 unfolding sum_of row_count
 readings-right text n mask values e = record { agreeing = agrees-exactly mask values; sum = λ fault. rw e; count = rw e }
 
--- some weight is above 1
-some-above : (outputs : List Output) (k : ℕ) → k < length outputs → lt_z (pos 1) (get_or outputs k no_output).weight ≡ true → some_above_one outputs ≡ true
-unfolding some_above_one
-some-above [] k h e = absurd (omega arith)
-some-above (o ∷ outputs) zero h e = rw e
-some-above (o ∷ outputs) (suc k) h e = rw (some-above outputs k (omega arith) e) (or-true (lt_z (pos 1) o.weight))
+-- some weight is not 1, exactly where one can be named
+abbrev NotOne : List Output → Type 0
+NotOne outputs = (k : ℕ) × (k < length outputs) × ((get_or outputs k no_output).weight ≢ pos 1)
 
-none_above : (outputs : List Output) → ((k : ℕ) → k < length outputs → lt_z (pos 1) (get_or outputs k no_output).weight ≡ true → ⊥) → some_above_one outputs ≡ false
-unfolding some_above_one
-none_above [] f = refl
-none_above (o ∷ outputs) f = go (lt_z (pos 1) o.weight) refl (none_above outputs (λ k h. f (suc k) (omega arith)))
+some-means : (outputs : List Output) → (some_not_one outputs ≡ true) ↔ NotOne outputs
+unfolding some_not_one
+some-means [] = (λ e. absurd (false≢true e), λ s. absurd (omega (arith, s.1)))
+some-means (o ∷ outputs) = let rest = some-means outputs in (there (int_eq o.weight (pos 1)) refl rest.0, back rest.1)
   where
-    go : (t : Bool) → lt_z (pos 1) o.weight ≡ t → some_above_one outputs ≡ false → (t || some_above_one outputs) ≡ false
-    go true e ih = absurd (f zero (omega arith) e)
-    go false e ih = ih
+    there : (t : Bool) → int_eq o.weight (pos 1) ≡ t → (some_not_one outputs ≡ true → NotOne outputs) → (not t || some_not_one outputs) ≡ true → NotOne (o ∷ outputs)
+    there true e rest h = let s = rest h in (suc s.0, omega (arith, s.1), s.2)
+    there false e rest h = (zero, omega arith, λ one. false≢true (sym e ∙ (Decides-int_eq o.weight (pos 1)).1 one))
+
+    first : (t : Bool) → int_eq o.weight (pos 1) ≡ t → o.weight ≢ pos 1 → (not t || some_not_one outputs) ≡ true
+    first true e f = absurd (f ((Decides-int_eq o.weight (pos 1)).0 e))
+    first false e f = refl
+
+    back : (NotOne outputs → some_not_one outputs ≡ true) → NotOne (o ∷ outputs) → (not (int_eq o.weight (pos 1)) || some_not_one outputs) ≡ true
+    back rest (zero, h, f) = first (int_eq o.weight (pos 1)) refl f
+    back rest (suc k, h, f) = rw (rest (k, omega (arith, h), f)) (or-true (not (int_eq o.weight (pos 1))))
 
 module _ (n : Netlist) where
-  is-weighted : (1 < length n.outputs) ⊎ ((k : ℕ) × (k < length n.outputs) × AboveOne n k) → is_weighted n ≡ true
+  weighted-means : (is_weighted n ≡ true) ↔ ((1 < length n.outputs) ⊎ NotOne n.outputs)
   unfolding is_weighted
-  is-weighted (inl h) = rw (lt-ltb 1 (length n.outputs) h)
-  is-weighted (inr s) = rw (some-above n.outputs s.0 s.1 s.2) (or-true (ltb 1 (length n.outputs)))
+  weighted-means = (λ e. ⊎_map (ltb-true 1 (length n.outputs)) (some-means n.outputs).0 (either (ltb 1 (length n.outputs)) (some_not_one n.outputs) e), back)
+    where
+      back : (1 < length n.outputs) ⊎ NotOne n.outputs → (ltb 1 (length n.outputs) || some_not_one n.outputs) ≡ true
+      back (inl h) = rw (lt-ltb 1 (length n.outputs) h)
+      back (inr s) = rw ((some-means n.outputs).1 s) (or-true (ltb 1 (length n.outputs)))
 
-  not-weighted : length n.outputs ≤ 1 → ((k : ℕ) → k < length n.outputs → AboveOne n k → ⊥) → is_weighted n ≡ false
-  unfolding is_weighted
-  not-weighted h f = rw (le-ltb 1 (length n.outputs) h) (none_above n.outputs f)
+  one-plain : length n.outputs ≡ 1 → weight_at n 0 ≡ pos 1 → is_weighted n ≡ false
+  one-plain h e = go (is_weighted n) refl
+    where
+      never : (1 < length n.outputs) ⊎ NotOne n.outputs → ⊥
+      never (inl more) = omega (arith, h, more)
+      never (inr (zero, k, f)) = f e
+      never (inr (suc k, more, f)) = omega (arith, h, more)
+
+      go : (t : Bool) → is_weighted n ≡ t → is_weighted n ≡ false
+      go true w = absurd (never (weighted-means.0 w))
+      go false w = w
+
+  above-as-before : ((k : ℕ) → k < length n.outputs → pos 1 ≤ℤ weight_at n k)
+      → (is_weighted n ≡ true) ↔ ((1 < length n.outputs) ⊎ ((k : ℕ) × (k < length n.outputs) × (pos 1 <ℤ weight_at n k)))
+  above-as-before low =
+      Iff.trans weighted-means (
+        ⊎_map (λ h. h) (λ s. (s.0, s.1, omega (arith, ints, low s.0 s.1, s.2))),
+        ⊎_map (λ h. h) (λ s. (s.0, s.1, λ one. omega (arith, ints, s.2, one))),
+      )
 
   case-of : (mask : ℕ) (x : Float) → CaseRight n mask (case_of (is_weighted n) mask x)
   unfolding case_of
   case-of mask x =
       record {
         constrained = λ f. (x, rw (ne_eqb mask 0 f));
-        weighted = λ e s. (x, rw (eq-eqb mask 0 e, is-weighted s));
-        plain = λ e h f. (x, rw (eq-eqb mask 0 e, not-weighted h f));
+        weighted = λ e s. (x, rw (eq-eqb mask 0 e, weighted-means.1 s));
+        plain = λ e h one. (x, rw (eq-eqb mask 0 e, one-plain h one));
+        as_before = above-as-before;
       }
 
 pub case-right : (text : List ℕ) (n : Netlist) (mask values : ℕ) → parse_of text ≡ accepted n → reading_number (reading_answer text mask values) ≡ 0 → CaseRight n mask (reading_answer text mask values)

@@ -3,11 +3,11 @@
 --   buffer its number, and a refusal writes nothing except where the paper names it."
 -- Limits stand here as the paper's numbers, not by name: a limit that moves must move here too.
 -- That every call ends and does nothing undefined is the prover's part: no function passes the gate without it, and no call has a `requires`.
-use Rattle.std.specs.Prelude.{ℕ, ◌<◌, ◌≤◌, true, false, List, [], ◌∷◌, ◌↔◌, ◌⊎◌, ◌≡◌, ℤ, pos, length, drop}
+use Rattle.std.specs.Prelude.{ℕ, ◌<◌, ◌≤◌, true, false, List, [], ◌∷◌, ◌↔◌, ◌⊎◌, ◌≡◌, ◌≢◌, ℤ, pos, nat_abs, length, get_or, drop, Some}
 use Rattle.fields.specs.Fields.{LeastFailing}
 use Rattle.statements.specs.LineForms.{HeadForm, OutputForm, FaultForm, BridgeForm, FaultLineForm}
 use Rattle.gate_lines.specs.GateForms.{GateForm}
-use Rattle.statements.specs.Lines.{head_tests, head_refusal, output_tests, output_refusal, fault_tests, fault_refusal, fault_of, bridge_tests, bridge_refusal, names_bridge, fault_line_of}
+use Rattle.statements.specs.Lines.{head_tests, head_refusal, output_tests, output_refusal, output_of, unsigned_refusal, unsigned_of, fault_tests, fault_refusal, fault_of, bridge_tests, bridge_refusal, names_bridge, fault_line_of}
 use Rattle.gate_lines.specs.GateLines.{gate_tests, gate_refusal, gate_of, narrow_refusal, narrow_of}
 use Rattle.sections.specs.FaultLines.{nth_fault_refusal, nth_stuck_refusal}
 use Rattle.sections.specs.Sections.{lines_from, lines_of}
@@ -19,7 +19,7 @@ use Rattle.faults.specs.Faults.{bit_of, stuck_answer, opened_answer}
 use Rattle.bridges.specs.Bridges.{bridged_answer}
 use Rattle.netlist.specs.Circuits.{Netlist}
 use Rattle.netlist.specs.CircuitText.{text_of}
-use Rattle.netlist.specs.Parsing.{nth_gate_refusal, nth_narrow_refusal, accepted, rejected, parse_of}
+use Rattle.netlist.specs.Parsing.{nth_gate_refusal, nth_narrow_refusal, nth_output_refusal, nth_unsigned_refusal, accepted, rejected, parse_of}
 use Rattle.netlist.specs.Places.{LineFails, BytesFollow, NoneApplies}
 use Rattle.netlist.specs.WellFormed.{WellFormed}
 use Rattle.tables.specs.TableForms.{TableHeadForm, MarkForm}
@@ -32,7 +32,8 @@ use Rattle.tables.specs.Tables.{TruthTable}
 use Rattle.devices.specs.Describing.{described, refused_at, description_of}
 use Rattle.devices.specs.Devices.{circuit_problem, table_problem}
 use Rattle.devices.specs.Problems.{Problem}
-use Rattle.text.specs.Text.{bytes_of, before, field_of, field_count, line_end}
+use Rattle.text.specs.Text.{bytes_of, before, field_of, field_count, line_end, minus_sign, signed_number_of}
+use Rattle.writing.specs.Writing.{integer_of}
 use Rattle.circuit.specs.CircuitCall.{circuit_answer}
 use Rattle.planner.specs.PlanCall.{plan_verdict, plan_answer, WorkKept}
 use Rattle.report_lines.specs.ReportLines.{refused_line}
@@ -52,7 +53,7 @@ pub record TextsAnswered (text : List ℕ) : Type 0 where
   pub accept : (n : Netlist) → (parse_of text ≡ accepted n) ↔ (WellFormed n × (text ≡ text_of n))
   -- "A text is accepted exactly when none of 1 to 7 applies", nor 19
   pub none-applies : ((n : Netlist) × (parse_of text ≡ accepted n)) ↔ NoneApplies text
-  pub short : (n : Netlist) → parse_of text ≡ accepted n → length text ≤ 1800
+  pub short : (n : Netlist) → parse_of text ≡ accepted n → length text ≤ 1804
 
 -- the same of tables (document 02, notes 1 and 8): 2, 3, 5, 6 and 19 at a line, 15 at line 2, 7 at the line after the last
 pub record TablesAnswered (text : List ℕ) : Type 0 where
@@ -89,6 +90,14 @@ pub record GatesTold : Type 0 where
   pub as_before : (inputs count place : ℕ) (rest : List ℕ)
       → ((k : ℕ) → k < count → (field_count (before line_end (lines_from k rest)) ≡ 5 → ⊥) × (field_count (before line_end (lines_from k rest)) ≡ 6 → ⊥))
       → lines_of (nth_gate_refusal inputs) gate_of count place rest [] ≡ lines_of (nth_narrow_refusal inputs) narrow_of count place rest []
+
+-- an output's line whose WEIGHT does not begin with `-` is answered as document 01 has it, and so are output lines of which none does (document 02, note 4). Where a
+-- number may have a sign, a field says an integer of at most four digits exactly where it is that integer as it is written
+pub record OutputsTold : Type 0 where
+  pub no_sign : (top : ℕ) (l : List ℕ) → get_or (field_of l 2) 0 0 ≢ minus_sign → (output_refusal top l ≡ unsigned_refusal top l) × (output_of l ≡ unsigned_of l)
+  pub as_before : (top count place : ℕ) (rest : List ℕ) → ((k : ℕ) → k < count → get_or (field_of (before line_end (lines_from k rest)) 2) 0 0 ≢ minus_sign)
+      → lines_of (nth_output_refusal top) output_of count place rest [] ≡ lines_of (nth_unsigned_refusal top) unsigned_of count place rest []
+  pub integer : (field : List ℕ) (z : ℤ) → (signed_number_of field ≡ Some z) ↔ ((field ≡ integer_of z) × (nat_abs z < 10000))
 
 -- what each kind of line is tested for, by what it is written from
 pub record LinesTested : Type 0 where
@@ -141,6 +150,7 @@ pub record DemandOne : Type 0 where
   pub tables : (text : List ℕ) → TablesAnswered text
   pub kinds : (text : List ℕ) → KindsTold text
   pub gate-lines : GatesTold
+  pub output-lines : OutputsTold
   pub bridge-lines : BridgesTold
   pub lines : LinesTested
   pub numbers : (l : List ℕ) → LinesNumbered l

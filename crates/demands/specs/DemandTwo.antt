@@ -1,10 +1,9 @@
 -- Demand 2, in the user's words, over the definitions that the calls' promises cite:
 --   "Spectra equal the paper's sums, both ways. A faulty spectrum worked out from coefficients alone equals the sums over the faulted rows. A
 --   reading is the exact fraction."
-use Rattle.std.specs.Prelude.{ℕ, ◌+◌, ◌*◌, ◌<◌, ◌≤◌, ◌^◌, true, List, ◌↔◌, ◌⊎◌, ◌≡◌, Float, ℤ, pos, ◌-ℤ◌, length, get_or}
+use Rattle.std.specs.Prelude.{ℕ, ◌+◌, ◌*◌, ◌<◌, ◌≤◌, ◌^◌, true, List, ◌↔◌, ◌⊎◌, ◌≡◌, ◌≢◌, Float, ℤ, pos, ◌-ℤ◌, ◌≤ℤ◌, ◌<ℤ◌, length, get_or}
 use Rattle.std.specs.Int.Bits.{bit_and}
 use Rattle.std.specs.Int.Count.{ones}
-use Rattle.std.specs.Int.Signed.{lt_z}
 use Rattle.integer.specs.Mask.{bit}
 use Rattle.integer.specs.Sum.{sum_to, signed}
 use Rattle.integer.specs.Tab.{nth, Within}
@@ -29,7 +28,7 @@ use Rattle.circuit.specs.CircuitCall.{circuit_answer, circuit_spectrum}
 use Rattle.lookup.specs.StuckPairs.{stuck_lines, stuck_values, pairs_of, OfInputs}
 use Rattle.agreement.specs.Opened.{opened_circuit_rows}
 use Rattle.reading.specs.Readings.{ReadingAnswer, Syndrome, Weighted, Constrained, agrees, whole_sum, count_of, reading_number}
-use Rattle.fixture.specs.ReadingCall.{reading_answer, pair_answer, sum_of, row_count, ReadExactly, ComparedExactly}
+use Rattle.fixture.specs.ReadingCall.{is_weighted, reading_answer, pair_answer, sum_of, row_count, ReadExactly, ComparedExactly}
 use Rattle.demands.specs.Refusals.{CircuitFault, TableFault}
 
 -- "The coefficient at a label is the signed sum of all row values", and back
@@ -60,6 +59,9 @@ pub record FaultySpectraRight : Type 0 where
 pub record CircuitsRight (text : List ℕ) (n : Netlist) : Type 0 where
   pub rows : (k x : ℕ) → x < 2 ^ n.inputs → nth (rows_of n (fault_at n k)) x ≡ row_value n (fault_at n k) x
   pub spectrum : (k : ℕ) → k ≤ length n.faults → circuit_spectrum text k ≡ spectrum_of (rows_of n (fault_at n k))
+  -- "Row values then run from −60 to 60" (document 02, note 4), and coefficients from -15,360 to 15,360
+  pub row-values : (k : ℕ) → Within 60 (rows_of n (fault_at n k))
+  pub coefficients : (k : ℕ) → k ≤ length n.faults → Within 15360 (circuit_spectrum text k)
   -- the circuit's equations: an input's line shows what it gets, and a gate's line its kind's value of all the lines that it reads, as they are shown
   pub input-lines : (k x i : ℕ) → i < n.inputs → let f = fault_at n k in reads (line_values n f x) (i + 1) ≡ shown f (i + 1) (applied_under f.bridge x i)
   pub gate-lines : (k x j : ℕ) → j < length n.gates → let f = fault_at n k in
@@ -110,15 +112,18 @@ pub record ReadingsRight (text : List ℕ) (n : Netlist) (mask values : ℕ) : T
   pub sum : (fault : ℕ) → sum_of text fault mask values ≡ whole_sum mask values (rows_of n (fault_at n fault))
   pub count : row_count text mask values ≡ count_of mask values (2 ^ n.inputs)
 
--- "The answer is a case: a plain syndrome, a weighted sum (M above 1 or a weight above 1), a constrained value with its number of fixed inputs (mask not 0;
--- this case goes first)"
-abbrev pub AboveOne : Netlist → ℕ → Type 0
-AboveOne n k = lt_z (pos 1) (get_or n.outputs k no_output).weight ≡ true
+-- "The answer is a case: a plain syndrome, a weighted sum .., a constrained value with its number of fixed inputs (mask not 0; this case goes first)", and "any weight
+-- other than 1 now makes a reading a weighted sum" (document 02, note 4): plain is one output of weight 1
+abbrev pub weight_at : Netlist → ℕ → ℤ
+weight_at n k = (get_or n.outputs k no_output).weight
 
 pub record CaseRight (n : Netlist) (mask : ℕ) (r : ReadingAnswer) : Type 0 where
   pub constrained : (mask ≡ 0 → ⊥) → (x : Float) × (r ≡ Constrained x (ones mask))
-  pub weighted : mask ≡ 0 → (1 < length n.outputs) ⊎ ((k : ℕ) × (k < length n.outputs) × AboveOne n k) → (x : Float) × (r ≡ Weighted x)
-  pub plain : mask ≡ 0 → length n.outputs ≤ 1 → ((k : ℕ) → k < length n.outputs → AboveOne n k → ⊥) → (x : Float) × (r ≡ Syndrome x)
+  pub weighted : mask ≡ 0 → (1 < length n.outputs) ⊎ ((k : ℕ) × (k < length n.outputs) × (weight_at n k ≢ pos 1)) → (x : Float) × (r ≡ Weighted x)
+  pub plain : mask ≡ 0 → length n.outputs ≡ 1 → weight_at n 0 ≡ pos 1 → (x : Float) × (r ≡ Syndrome x)
+  -- where no weight has a sign, weighted is as document 01 has it: "M above 1 or a weight above 1"
+  pub as_before : ((k : ℕ) → k < length n.outputs → pos 1 ≤ℤ weight_at n k)
+      → (is_weighted n ≡ true) ↔ ((1 < length n.outputs) ⊎ ((k : ℕ) × (k < length n.outputs) × (pos 1 <ℤ weight_at n k)))
 
 pub record DemandTwo : Type 0 where
   pub spectra : SpectraRight

@@ -5,3 +5,4 @@ pub mod Texts
 pub mod Notes
 pub mod TableTexts
 pub mod WideTexts
+pub mod SignedTexts

@@ -1,10 +1,11 @@
 -- Document 02's examples, note by note, as a table like that of document 01's.
 use Rattle.std.specs.Prelude.{List, [], ◌∷◌, pos}
-use Rattle.reading.specs.Readings.{Unreadable}
+use Rattle.reading.specs.Readings.{Syndrome, Weighted, Constrained, Unreadable}
 use Rattle.screen.specs.Answers.{minus}
 use Rattle.examples.specs.BridgeTexts.{bridged_listing, bridged_listing_report, silent_bridge, silent_bridge_report, bridged_table, bridged_table_report, gate_with, table_with}
 use Rattle.examples.specs.Functions.{bridged_figure}
-use Rattle.examples.specs.Table.{Case, whole, bridged, bridged_whole, bridged_not, circuit, plan, no_plan, report, reading}
+use Rattle.examples.specs.Table.{Case, whole, bridged, bridged_whole, bridged_not, circuit, plan, no_plan, report, reading, compares, plus, less}
+use Rattle.examples.specs.SignedTexts.{with_output, subtracted_report, subtracted_input, opposite_weights, with_fault}
 use Rattle.examples.specs.WideTexts.{wide_and, wide_and_report, wide_parity, with_gate}
 use Rattle.examples.specs.TableTexts.{figure_table, small_table, small_table_report, constant_table, constant_table_report, comma_table, short_table, line_above_table}
 
@@ -55,6 +56,44 @@ note_table =
     ∷ no_plan (with_gate "gate,and,4,1,2,57") 3 2
     ∷ no_plan (with_gate "gate,and,1,2,4") 4 2
     ∷ no_plan (with_gate "gate,and,1,2,3,56") 4 2
+    -- Note 4: the listing with its output subtracted; its reading is negative, and under the fault that leaves the sum the difference is +0
+    ∷ circuit (with_output "output,7,-1") 0 (minus 4 ∷ pos 2 ∷ pos 0 ∷ minus 2 ∷ pos 2 ∷ pos 0 ∷ pos 2 ∷ pos 0 ∷ [])
+    ∷ plan (with_output "output,7,-1") (1 ∷ [])
+    ∷ report (with_output "output,7,-1") subtracted_report
+    ∷ reading (with_output "output,7,-1") 0 0 (Weighted (less 5 1))
+    ∷ reading (with_output "output,7,-1") 2 2 (Constrained (less 5 1) 1)
+    ∷ compares (with_output "output,7,-1") 2 1 1 (less 75 2) (less 1 0) (plus 25 2)
+    ∷ compares (with_output "output,7,-1") 1 0 0 (less 5 1) (less 5 1) (plus 0 0)
+    ∷ reading (with_output "output,7,2") 0 0 (Weighted (plus 1 0))
+    ∷ reading (with_output "output,7,1") 0 0 (Syndrome (plus 5 1))
+    -- an input of weight -15; an input that is added and subtracted, whose faults are silent
+    ∷ circuit subtracted_input 0 (minus 15 ∷ pos 15 ∷ [])
+    ∷ circuit opposite_weights 0 (pos 0 ∷ pos 0 ∷ [])
+    ∷ no_plan opposite_weights 13 1
+    ∷ reading opposite_weights 0 0 (Weighted (plus 0 0))
+    -- 2, 3 and 5 of an output's line, in that order
+    ∷ no_plan (with_output "output,7,-0") 2 6
+    ∷ no_plan (with_output "output,7,-00") 2 6
+    ∷ no_plan (with_output "output,7,-") 2 6
+    ∷ no_plan (with_output "output,7,--5") 2 6
+    ∷ no_plan (with_output "output,7,+5") 2 6
+    ∷ no_plan (with_output "output,7,-05") 2 6
+    ∷ no_plan (with_output "output,7,05") 2 6
+    ∷ no_plan (with_output "output,7,") 2 6
+    ∷ no_plan (with_output "output,7,-10000") 2 6
+    ∷ no_plan (with_output "output,57,-0") 2 6
+    ∷ no_plan (with_output "output,-7,16") 2 6
+    ∷ no_plan (with_output "output,7,0") 3 6
+    ∷ no_plan (with_output "output,7,16") 3 6
+    ∷ no_plan (with_output "output,7,-16") 3 6
+    ∷ no_plan (with_output "output,7,-9999") 3 6
+    ∷ no_plan (with_output "output,8,-16") 3 6
+    ∷ no_plan (with_output "output,8,-15") 5 6
+    -- no other number has a sign
+    ∷ no_plan (with_fault "fault,-1,0") 2 3
+    ∷ no_plan (with_fault "fault,1,-0") 2 3
+    ∷ no_plan (with_fault "fault,1,-1") 2 3
+    ∷ no_plan (with_gate "gate,and,1,-2") 2 2
     -- Note 8: example 6.2 of 004, its spectrum, and label 0 under each bridge; 2,3 and 3,4 leave the sound one
     ∷ whole bridged_figure (pos 7 ∷ pos 1 ∷ pos 3 ∷ pos 1 ∷ minus 1 ∷ minus 3 ∷ minus 1 ∷ pos 1 ∷ pos 3 ∷ pos 1 ∷ minus 1 ∷ pos 1 ∷ minus 1 ∷ pos 1 ∷ minus 1 ∷ pos 5 ∷ [])
     ∷ bridged bridged_figure 1 2 (pos 10)

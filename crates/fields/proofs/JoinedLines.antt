@@ -1,6 +1,8 @@
 -- A line is its fields joined by commas, and a number in it the decimal of its value:
 --   values_from                           the values of the fields from k on
 --   values-small, values-count           they are below 10,000, and so many
+--   field-written, signed-written        a field that is a number, without and with a sign, is that number as it is written
+--   end-added                            a line of a word and numbers, with the byte that ends it
 --   line-joined, line-ended              a line of a word and numbers is that word and those numbers as they are written
 --   two-words-joined, two-words-ended    the same where a second word stands before the numbers
 --   line-form                            exactly those lines have that form
@@ -12,20 +14,20 @@ use mathlib.Core.Logic.{◌↔◌}
 use Prim.Native.Nat.{ℕ, zero, suc, ◌-◌, ◌<◌}
 use native.Mathlib.Omega.{arith}
 use lib.Dec.{eqb}
-use lib.IntN.{pos}
+use lib.IntN.{ℤ, pos, nat_abs}
 use lib.ListN.{length}
 use borrow.Author.Tests.{eqb-true}
-use Rattle.text.specs.Text.{comma, line_end, after, field_of, field_count, same_bytes, number_of}
-use Rattle.std.specs.Prelude.{Option, Some, None}
+use Rattle.text.specs.Text.{comma, line_end, after, field_of, field_count, same_bytes, number_of, signed_number_of}
+use Rattle.std.specs.Prelude.{Option, Some, None, is_some, unwrap_or}
 use Rattle.integer.proofs.Bools.{both, clash}
 use Rattle.text.proofs.Decimals.{number-le}
 use Rattle.text.proofs.Parts.{only-field, first-separated}
 use Rattle.text.proofs.Words.{same-equal}
 use Rattle.writing.specs.Writing.{Small, integer_of, numbers_of, line_of}
 use Rattle.writing.proofs.LineFields.{Lacks, no-numbers, numbers-cons}
-use Rattle.writing.proofs.ReadBack.{number-only}
+use Rattle.writing.proofs.ReadBack.{number-only, signed-only}
 use Rattle.writing.proofs.Writings.{natural-written}
-use Rattle.fields.specs.Fields.{is_number, number_value, value_at, numbers_from, is_line}
+use Rattle.fields.specs.Fields.{is_number, number_value, value_at, signed_value_at, numbers_from, is_line}
 use Rattle.fields.proofs.PlainLines.{plain-line}
 
 -- the values of the `count` fields from k on
@@ -47,12 +49,21 @@ values-count l k zero = refl
 values-count l k (suc count) = ap suc (values-count l (suc k) count)
 
 -- a field that is a number
-field-written : (l : List ℕ) (k : ℕ) → is_number (number_of (field_of l k)) ≡ true → field_of l k ≡ integer_of (pos (value_at l k))
+pub field-written : (l : List ℕ) (k : ℕ) → is_number (number_of (field_of l k)) ≡ true → field_of l k ≡ integer_of (pos (value_at l k))
 unfolding value_at
 field-written l k e = go (number_of (field_of l k)) refl e
   where
     go : (n : Option ℕ) → number_of (field_of l k) ≡ n → is_number n ≡ true → field_of l k ≡ integer_of (pos (number_value n))
     go (Some v) q h = number-only (field_of l k) v q ∙ sym (natural-written v)
+    go None q h = clash (sym h)
+
+pub signed-written : (l : List ℕ) (k : ℕ) → is_some (signed_number_of (field_of l k)) ≡ true
+    → (field_of l k ≡ integer_of (signed_value_at l k)) × (nat_abs (signed_value_at l k) < 10000)
+unfolding signed_value_at
+signed-written l k e = go (signed_number_of (field_of l k)) refl e
+  where
+    go : (z : Option ℤ) → signed_number_of (field_of l k) ≡ z → is_some z ≡ true → (field_of l k ≡ integer_of (unwrap_or z (pos 0))) × (nat_abs (unwrap_or z (pos 0)) < 10000)
+    go (Some z) q h = signed-only (field_of l k) z q
     go None q h = clash (sym h)
 
 -- the fields after the first comma
@@ -89,9 +100,9 @@ joined (suc k) l c e =
     ∙ ap (λ (m : List ℕ). field_of l 0 ++ m) (ap (λ (f : List ℕ). comma ∷ (f ++ numbers_of (map pos (values_from l 2 k)))) (field-written l 1 b.0) ∙ sym (numbers-cons (pos (value_at l 1)) (map pos (values_from l 2 k))))
 
 -- with the byte that ends it
-ended : (l word ns : List ℕ) → l ≡ word ++ numbers_of (map pos ns) → l ++ (line_end ∷ []) ≡ line_of word (map pos ns)
+pub end-added : (l word : List ℕ) (numbers : List ℤ) → l ≡ word ++ numbers_of numbers → l ++ (line_end ∷ []) ≡ line_of word numbers
 unfolding line_of
-ended l word ns e = ap (λ (m : List ℕ). m ++ (line_end ∷ [])) e ∙ append_assoc word (numbers_of (map pos ns)) (line_end ∷ [])
+end-added l word numbers e = ap (λ (m : List ℕ). m ++ (line_end ∷ [])) e ∙ append_assoc word (numbers_of numbers) (line_end ∷ [])
 
 -- of a line whose numbers stand from field `from` on
 pub word-is : (l word : List ℕ) (from fields : ℕ) → is_line l word from fields ≡ true → field_of l 0 ≡ word
@@ -116,7 +127,7 @@ module _ (l word : List ℕ) (k : ℕ) where
         joined k l f.0 f.2 ∙ ap (λ (w : List ℕ). w ++ numbers_of (map pos (values_from l 1 k))) f.1
 
     pub line-ended : l ++ (line_end ∷ []) ≡ line_of word (map pos (values_from l 1 k))
-    line-ended = ended l word (values_from l 1 k) line-joined
+    line-ended = end-added l word (map pos (values_from l 1 k)) line-joined
 
   module _ (e : is_line l word 2 (suc (suc k)) ≡ true) where
     pub two-words-joined : l ≡ (word ++ (comma ∷ field_of l 1)) ++ numbers_of (map pos (values_from l 2 k))
@@ -127,7 +138,7 @@ module _ (l word : List ℕ) (k : ℕ) where
         ∙ sym (append_assoc word (comma ∷ field_of l 1) (numbers_of (map pos (values_from l 2 k))))
 
     pub two-words-ended : l ++ (line_end ∷ []) ≡ line_of (word ++ (comma ∷ field_of l 1)) (map pos (values_from l 2 k))
-    two-words-ended = ended l (word ++ (comma ∷ field_of l 1)) (values_from l 2 k) two-words-joined
+    two-words-ended = end-added l (word ++ (comma ∷ field_of l 1)) (map pos (values_from l 2 k)) two-words-joined
 
   pub line-form : Lacks comma word → (is_line l word 1 (suc k) ≡ true) ↔ ((ns : List ℕ) × Small ns × (length ns ≡ k) × (l ≡ word ++ numbers_of (map pos ns)))
   line-form lacks = (

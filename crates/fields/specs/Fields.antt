@@ -2,10 +2,10 @@
 --   "Fields stand in fixed order, parted by commas" "The words are compared byte for byte."
 --   "within a line 2, 3, then 4, 5, 6"
 -- A field that is no number, or is not there, counts as 0 where its value is asked; a line with a bad number is refused before that matters.
-use Rattle.std.specs.Prelude.{ℕ, zero, suc, ◌-◌, ◌≤◌, Bool, true, false, ◌&&◌, List, [], ◌∷◌, ◌++◌, map, ◌⊎◌, ◌≡◌, eqb, leb, pos}
-use Rattle.text.specs.Text.{field_of, field_count, same_bytes, number_of}
+use Rattle.std.specs.Prelude.{ℕ, zero, suc, ◌-◌, ◌≤◌, Bool, true, false, ◌&&◌, List, [], ◌∷◌, ◌++◌, map, ◌⊎◌, ◌≡◌, eqb, leb, ℤ, pos}
+use Rattle.text.specs.Text.{field_of, field_count, same_bytes, number_of, signed_number_of}
 use Rattle.writing.specs.Writing.{numbers_of}
-use Rattle.std.specs.Prelude.{Option, Some, None}
+use Rattle.std.specs.Prelude.{Option, Some, None, unwrap_or}
 
 abbrev pub is_number : Option ℕ → Bool
 is_number (Some v) = true
@@ -17,6 +17,10 @@ number_value None = 0
 
 unfoldable pub value_at : List ℕ → ℕ → ℕ
 value_at l k = number_value (number_of (field_of l k))
+
+-- where the number may have a sign
+unfoldable pub signed_value_at : List ℕ → ℕ → ℤ
+signed_value_at l k = unwrap_or (signed_number_of (field_of l k)) (pos 0)
 
 -- the `count` fields from k on are numbers
 unfoldable pub numbers_from : List ℕ → ℕ → ℕ → Bool

@@ -2,7 +2,7 @@
 #![tactic(auto)]
 
 ghost use Rattle.std.specs.Prelude.{◌≡◌, ◌-◌, ◌≤◌};
-ghost use Rattle.fields.specs.Fields.{value_at, numbers_from, is_line, in_range};
+ghost use Rattle.fields.specs.Fields.{value_at, signed_value_at, numbers_from, is_line, in_range};
 
 // The number in field k, at most 9,999; 0 where there is none. No Option, which would be no plainer: the definition is total, and callers ask first whether
 // the fields are numbers.
@@ -11,6 +11,14 @@ pub fn value_at(line: &[u8], k: usize) -> u16
     ensures { (result ≡ value_at line.now k) × (result ≤ 9999) }
 {
     text::decimal(text::field(line, k)).unwrap_or(0)
+}
+
+// The number in field k where it may have a sign; 0 where there is none.
+#[tactic(auto, unfolding(crate::specs::Fields::signed_value_at))]
+pub fn signed_value_at(line: &[u8], k: usize) -> i16
+    ensures { result ≡ signed_value_at line.now k }
+{
+    text::signed_decimal(text::field(line, k)).unwrap_or(0)
 }
 
 // Whether the fields from `from` on, those before `to`, are numbers.

@@ -11,13 +11,14 @@ use native.Mathlib.Nat.{lt_of_not-le}
 use native.Mathlib.Decide.{dec_le}
 use native.Mathlib.Omega.{arith}
 use lib.Dec.{leb, ltb, lit≤}
+use lib.IntN.{nat_abs}
 use lib.ListN.{length}
 use borrow.Author.Tests.{ltb-true, leb-true, eqb-true, lt-ltb}
 use Rattle.text.specs.Text.{before, after, has_byte, line_end, field_of, field_count}
 use Rattle.integer.proofs.Bools.{both}
 use Rattle.statements.specs.Items.{no_output, sound}
 use Rattle.gate_lines.specs.GateItems.{Gate, no_gate, SecondRight, GateRight}
-use Rattle.fields.specs.Fields.{value_at, fits}
+use Rattle.fields.specs.Fields.{value_at, signed_value_at, fits, in_range}
 use Rattle.statements.specs.Lines.{is_head, head_fits, head_refusal, head_of, is_output, output_fits, output_refusal, output_of, fault_line_of}
 use Rattle.gate_lines.specs.GateLines.{second_fits, added_fits, is_gate, gate_fits, reads_below, gate_refusal, gate_of}
 use Rattle.kinds.specs.Kinds.{kind_of}
@@ -98,9 +99,9 @@ output-right top l e =
     let formed = unless-passed (is_output l) 2 _ (lit≤ tt) e in
     let fit = unless-passed (output_fits l) 3 _ (lit≤ tt) formed.1 in
     let exist = unless-passed (leb (value_at l 1) top) 5 0 (lit≤ tt) fit.1 in
-    let f = both (fits l 1 1 56) (fits l 2 1 15) fit.0 in
-    let w = fits-range l 2 1 15 f.1 in
-    record { line_low = (fits-range l 1 1 56 f.0).0; line-high = leb-true (value_at l 1) top exist.0; weight-low = w.0; weight-high = w.1; weight-whole = refl }
+    let f = both (fits l 1 1 56) (in_range (nat_abs (signed_value_at l 2)) 1 15) fit.0 in
+    let w = range (nat_abs (signed_value_at l 2)) 1 15 f.1 in
+    record { line_low = (fits-range l 1 1 56 f.0).0; line-high = leb-true (value_at l 1) top exist.0; weight-low = w.0; weight-high = w.1 }
 
 -- the whole text
 

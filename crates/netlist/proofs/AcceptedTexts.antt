@@ -1,7 +1,7 @@
 -- Which texts are accepted:
 --   accepted-only     a text that is accepted as a circuit is the text of that circuit
 --   texts-exactly     the texts of the well-formed circuits, and no others
---   accepted-short    such a text is at most 1,800 bytes long
+--   accepted-short    such a text is at most 1,804 bytes long
 use mathlib.Core.Path.{◌≡◌, ap, ap₂, ◌∙◌}
 use mathlib.Core.List.{List, [], ◌++◌, append-nil}
 use mathlib.Core.Logic.{◌↔◌}

@@ -4,21 +4,23 @@
 use mathlib.Core.Path.{◌≡◌, refl, ap, ap₂, ◌∙◌, subst}
 use mathlib.Core.Bool.{true}
 use mathlib.Core.List.{List, [], ◌∷◌, ◌++◌, map}
-use Prim.Native.Nat.{ℕ, suc, ◌-◌, ◌≤◌}
+use Prim.Native.Nat.{ℕ, suc, ◌-◌, ◌<◌, ◌≤◌}
 use native.Mathlib.Omega.{arith}
 use lib.Dec.{lit≤}
-use lib.IntN.{ℤ, pos, nat_abs}
+use lib.IntN.{pos, nat_abs}
 use lib.ListN.{length, get_or}
+use Rattle.std.proofs.lemmas.Int.{ints}
 use Rattle.integer.specs.ListTests.{any}
 use Rattle.text.specs.Text.{comma, line_end, index_of, field_of, field_count}
 use Rattle.writing.specs.Writing.{Small, decimal_to, decimal_of, integer_of, gather, number_field, numbers_of, line_of}
 use Rattle.writing.proofs.LineFields.{AtMost, most-small, line-longest, lacks-append}
-use Rattle.writing.proofs.Writings.{line-long}
-use Rattle.fields.specs.Fields.{value_at, is_line, unless, line_from}
+use Rattle.writing.proofs.Writings.{line-long, line-two, natural-length, integer-length}
+use Rattle.fields.specs.Fields.{value_at, signed_value_at, is_line, unless, line_from}
 use Rattle.statements.specs.Lines.{circuit_word, output_word, is_head, head_refusal, head_of, is_output, output_refusal, output_of}
 use Rattle.gate_lines.specs.GateLines.{gate_word, is_gate, gate_refusal, gate_of}
 use Rattle.gate_lines.specs.GateItems.{Gate, line_fields, GateRight}
-use Rattle.statements.proofs.FormsMeant.{head-form, output-form}
+use Rattle.statements.specs.LineForms.{output_from}
+use Rattle.statements.proofs.FormsMeant.{head-form, output-form, output-joined, line-value, weight-value}
 use Rattle.gate_lines.proofs.GateFormsMeant.{gate-formed}
 use Rattle.gate_lines.proofs.GatesWritten.{fields-most, gate-passes, gate-says, fields-kept}
 use Rattle.kinds.specs.Kinds.{kind_word}
@@ -27,7 +29,7 @@ use Rattle.statements.specs.declared.Output.{Output}
 use Rattle.kinds.proofs.KindWords.{kind-written, kind-only}
 use Rattle.sections.proofs.LinesWritten.{Told}
 use Rattle.fields.proofs.Chains.{unless-passed}
-use Rattle.fields.proofs.JoinedLines.{line-ended, two-words-ended}
+use Rattle.fields.proofs.JoinedLines.{end-added, two-words-ended, line-ended}
 use Rattle.fields.proofs.PlainLines.{plain_value}
 use Rattle.netlist.specs.CircuitText.{head_line, gate_line, output_line}
 use Rattle.netlist.specs.Circuits.{Netlist}
@@ -118,39 +120,31 @@ gate-only own l e =
 
 -- ---- outputs
 
-pub output-told : (top : ℕ) (o : Output) → top ≤ 56 → OutputRight top o → Told 13 (output_refusal top) output_of (output_line o) o
-unfolding output_line output_refusal output_of unless index_of any line_of numbers_of gather number_field integer_of decimal_of decimal_to
+pub output-told : (top : ℕ) (o : Output) → top ≤ 56 → OutputRight top o → Told 14 (output_refusal top) output_of (output_line o) o
+unfolding output_line output_refusal output_of unless index_of
 output-told top o h r =
     record {
       word = output_word;
-      numbers = map pos ns;
-      is = ap (λ (z : ℤ). line_of output_word (pos o.line ∷ z ∷ [])) r.weight-whole;
+      numbers = pos o.line ∷ o.weight ∷ [];
+      is = refl;
       one_line = refl;
       passes = rw (
-        (output-form.form (line_from output_word ns)).1 (ns, small, refl, refl),
-        (output-form.range o.line (nat_abs o.weight) small).1 (r.line_low, omega (arith, r.line-high), r.weight-low, r.weight-high),
-        (output-form.exists top o.line (nat_abs o.weight) small).1 r.line-high,
+        (output-form.form (output_from o.line o.weight)).1 (o.line, o.weight, small, near, refl),
+        (output-form.range o.line o.weight small near).1 (r.line_low, omega (arith, r.line-high), omega (arith, ints, r.weight-high), omega (arith, ints, r.weight-high), λ z. omega (arith, ints, r.weight-low, z)),
+        (output-form.exists top o.line o.weight small).1 r.line-high,
       );
-      says = rw (at 0, at 1, ← r.weight-whole);
-      short = line-longest output_word longest ns high;
+      says = rw (line-value o.line o.weight small, weight-value o.line o.weight small near);
+      short = omega (arith, line-two output_word (pos o.line) o.weight, natural-length 1 o.line (omega (arith, r.line-high)), integer-length 1 o.weight (omega (arith, r.weight-high)));
     }
   where
-    ns : List ℕ
-    ns = o.line ∷ nat_abs o.weight ∷ []
+    small : o.line < 10000
+    small = omega (arith, r.line-high)
 
-    -- their line has 13 bytes
-    longest : List ℕ
-    longest = 56 ∷ 15 ∷ []
-
-    high : AtMost longest ns
-    high = (omega (arith, r.line-high), (r.weight-high, tt))
-
-    small : Small ns
-    small = most-small longest ns refl high
-
-    at : (k : ℕ) → value_at (line_from output_word ns) (suc k) ≡ get_or ns k 0
-    at k = plain_value output_word ns small refl k
+    near : nat_abs o.weight < 10000
+    near = omega (arith, r.weight-high)
 
 pub output-only : (top : ℕ) (l : List ℕ) → output_refusal top l ≡ 0 → l ++ (line_end ∷ []) ≡ output_line (output_of l)
-unfolding output_refusal is_output output_of output_line
-output-only top l e = line-ended l output_word 2 (unless-passed (is_line l output_word 1 3) 2 _ (lit≤ tt) e).0
+unfolding output_refusal output_of output_line
+output-only top l e =
+    let formed = unless-passed (is_output l) 2 _ (lit≤ tt) e in
+    end-added l output_word (pos (value_at l 1) ∷ signed_value_at l 2 ∷ []) (output-joined l formed.0).0

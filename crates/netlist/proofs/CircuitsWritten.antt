@@ -1,7 +1,7 @@
 -- Every well-formed circuit has a text:
 --   text-accepted       the text of a well-formed circuit is accepted as that circuit
 --   accepted-exactly    the well-formed circuits are those that some text is accepted as
---   text-short          such a text is at most 1,800 bytes long
+--   text-short          such a text is at most 1,804 bytes long
 use mathlib.Core.Path.{◌≡◌, sym, ap, ◌∙◌}
 use mathlib.Core.List.{List, [], ◌++◌, append-nil}
 use mathlib.Core.Logic.{◌↔◌}
@@ -49,7 +49,7 @@ module _ (n : Netlist) (w : WellFormed n) where
   gates-told : (j : ℕ) → j < length n.gates → Told 22 (nth_gate_refusal n.inputs j) gate_of (gate_line (get_or n.gates j no_gate)) (get_or n.gates j no_gate)
   gates-told j h = gate-told (n.inputs + j + 1) (get_or n.gates j no_gate) (omega (arith, w.inputs-high, w.gates-high)) (w.gates-right j h)
 
-  outputs-told : (j : ℕ) → j < length n.outputs → Told 13 (nth_output_refusal (top_of n) j) output_of (output_line (get_or n.outputs j no_output)) (get_or n.outputs j no_output)
+  outputs-told : (j : ℕ) → j < length n.outputs → Told 14 (nth_output_refusal (top_of n) j) output_of (output_line (get_or n.outputs j no_output)) (get_or n.outputs j no_output)
   outputs-told j h = output-told (top_of n) (get_or n.outputs j no_output) top-high (w.outputs-right j h)
 
   faults-told : (j : ℕ) → j < length n.faults → Told 21 (nth_fault_refusal n.inputs (top_of n) j) fault_line_of (fault_line (get_or n.faults j sound)) (get_or n.faults j sound)

@@ -5,3 +5,4 @@ pub mod Refusals
 pub mod CircuitsWritten
 pub mod AcceptedTexts
 pub mod NarrowGates
+pub mod UnsignedOutputs

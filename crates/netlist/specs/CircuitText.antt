@@ -3,7 +3,8 @@
 --   "Fields stand in fixed order, parted by commas, with no quoting. A line ends in one byte 0A hexadecimal, the last too." "The lines, in this order:"
 --   "`circuit,N,G,M,Q,K`: N inputs (1 to 8), G gates (0 to 48), M outputs (1 to 4), Q faults (1 to 32), cap K (1 to 4)."
 --   "G lines `gate,KIND,A,B`" "M lines `output,LINE,WEIGHT`" "Q lines `fault,LINE,VALUE`, with one to three LINE,VALUE pairs"
--- and document 02, notes 2 and 8: "A gate line may carry two, three or four line fields" "A fault line may read `bridge,I,J`"
+-- and document 02, notes 2, 4 and 8: "A gate line may carry two, three or four line fields" "WEIGHT becomes −15 to 15 without 0, written with `-`."
+-- "A fault line may read `bridge,I,J`"
 use Rattle.std.specs.Prelude.{ℕ, List, [], ◌∷◌, ◌++◌, map, pos, length}
 use Rattle.text.specs.Text.{comma}
 use Rattle.writing.specs.Writing.{line_of}
@@ -17,9 +18,9 @@ use Rattle.sections.specs.Sections.{each_line}
 use Rattle.sections.specs.FaultLines.{fault_line}
 use Rattle.netlist.specs.Circuits.{Netlist}
 
--- no circuit's text is longer: its first line has at most 20 bytes, 48 gates 22 each, 4 outputs 13 each and 32 faults 21 each
+-- no circuit's text is longer: its first line has at most 20 bytes, 48 gates 22 each, 4 outputs 14 each and 32 faults 21 each
 abbrev pub circuit_bytes : ℕ
-circuit_bytes = 1800
+circuit_bytes = 1804
 
 unfoldable pub head_line : Netlist → List ℕ
 head_line n =

@@ -2,7 +2,7 @@
 --   "Text: 1 first, then line by line; within a line 2, 3, then 4, 5, 6." "bytes after the last due line; the place is the next line"
 use Rattle.std.specs.Prelude.{ℕ, ◌+◌, cond, List, [], eqb, ltb, length}
 use Rattle.text.specs.Text.{text_bytes, before, after, line_end}
-use Rattle.statements.specs.Lines.{head_refusal, head_of, output_of, fault_line_of, output_refusal}
+use Rattle.statements.specs.Lines.{head_refusal, head_of, output_of, fault_line_of, output_refusal, unsigned_refusal}
 use Rattle.gate_lines.specs.GateLines.{gate_of, gate_refusal, narrow_refusal}
 use Rattle.statements.specs.Items.{Fault}
 use Rattle.gate_lines.specs.GateItems.{Gate}
@@ -22,6 +22,10 @@ nth_narrow_refusal inputs j l = narrow_refusal (inputs + j + 1) l
 
 abbrev pub nth_output_refusal : ℕ → ℕ → List ℕ → ℕ
 nth_output_refusal top j l = output_refusal top l
+
+-- as it was before weights had a sign
+abbrev pub nth_unsigned_refusal : ℕ → ℕ → List ℕ → ℕ
+nth_unsigned_refusal top j l = unsigned_refusal top l
 
 -- the gates begin at the text's second line
 unfoldable pub gates_in : Head → List ℕ → Read Gate

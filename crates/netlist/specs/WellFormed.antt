@@ -1,6 +1,6 @@
 -- What accepted circuits satisfy, and no others (proofs/CircuitsWritten `accepted-exactly`): document 01's ranges, gates that read lower lines, two to four
--- of them, and `not` one (document 02, note 2), outputs and faults that name lines of the circuit, a fault's lines rising, and bridges of two inputs that rise (document 02, note 8).
-use Rattle.std.specs.Prelude.{ℕ, ◌+◌, ◌<◌, ◌≤◌, ◌≡◌, pos, nat_abs, length, get_or}
+-- of them, and `not` one (document 02, note 2), weights of size 1 to 15 and either sign (document 02, note 4), outputs and faults that name lines of the circuit, a fault's lines rising, and bridges of two inputs that rise (document 02, note 8).
+use Rattle.std.specs.Prelude.{ℕ, ◌+◌, ◌<◌, ◌≤◌, nat_abs, length, get_or}
 use Rattle.statements.specs.Items.{no_output, sound}
 use Rattle.gate_lines.specs.GateItems.{no_gate, GateRight}
 use Rattle.statements.specs.declared.Output.{Output}
@@ -12,7 +12,6 @@ pub record OutputRight (top : ℕ) (o : Output) : Type 0 where
   pub line-high : o.line ≤ top
   pub weight-low : 1 ≤ nat_abs o.weight
   pub weight-high : nat_abs o.weight ≤ 15
-  pub weight-whole : o.weight ≡ pos (nat_abs o.weight)
 
 abbrev pub top_of : Netlist → ℕ
 top_of n = n.inputs + length n.gates

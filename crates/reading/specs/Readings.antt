@@ -3,6 +3,7 @@
 --   syndrome, a weighted sum (M above 1 or a weight above 1), a constrained value with its number of fixed inputs (mask not 0; this case goes
 --   first), or a refusal." "A pair call .. returns the sound reading, the faulty one and sound minus faulty."
 --   "Sizes, labels and readings returned with a refusal are 0."
+-- and weights with a sign (document 02, note 4): "Any weight other than 1 now makes a reading a weighted sum. Readings may be negative; the fraction is exact all the same."
 use Rattle.std.specs.Prelude.{ℕ, zero, suc, ◌+◌, Bool, true, false, cond, List, eqb, Float, ℤ, pos, length}
 use Rattle.std.specs.Int.Bits.{bit_and}
 use Rattle.std.specs.Int.Count.{ones}

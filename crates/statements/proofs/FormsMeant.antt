@@ -1,30 +1,38 @@
 -- The tests of a line ask of its fields what `LineForms` asks of the numbers that it is written from:
 --   head-form, output-form, fault-form, bridge-form    for each kind of line
 --   fault-line-form                                     a fault line is answered as a line of its form
+--   output-joined, line-value, weight-value             an output's line is its line and its weight as they are written, and says them
 --   PairCount, fault-formed                             the fields of a fault line: a word and the numbers of one to three pairs
 --   bridge-named, fault-unnamed, word-told              its word tells a bridge from a fault of stuck lines
 use mathlib.Core.Path.{◌≡◌, refl, sym, ap, ◌∙◌, subst}
-use mathlib.Core.Bool.{Bool, true, false, cond, ◌||◌, false≢true}
-use mathlib.Core.List.{List, [], ◌∷◌}
+use mathlib.Core.Bool.{Bool, true, false, cond, ◌&&◌, ◌||◌, false≢true}
+use mathlib.Core.List.{List, [], ◌∷◌, ◌++◌}
 use mathlib.Core.Logic.Iff
-use mathlib.Core.Logic.{◌↔◌, ◌⊎◌, inl, inr, ⊎_map}
+use mathlib.Core.Logic.{◌↔◌, ◌⊎◌, ◌≢◌, inl, inr, ⊎_map}
 use Prim.Native.Nat.{ℕ, zero, suc, ◌+◌, ◌-◌, ◌<◌, ◌≤◌}
 use native.Mathlib.Nat.{lt_of_not-le}
 use native.Mathlib.Decide.{dec_le}
 use native.Mathlib.Omega.{arith}
 use lib.Dec.{eqb, leb}
+use lib.IntN.{ℤ, pos, negsuc, nat_abs}
 use lib.ListN.{length, get_or, get_or-eq_default}
-use borrow.Author.Tests.{eqb-true}
+use lib.Signed.{◌≤ℤ◌}
+use borrow.Author.Tests.{eqb-true, eq-eqb}
+use Rattle.std.proofs.lemmas.Int.{ints}
+use Rattle.std.specs.Prelude.{Some, is_some}
 use Rattle.integer.proofs.Bools.{both, either}
-use Rattle.text.specs.Text.{index_of, field_of, field_count, same_bytes}
-use Rattle.text.proofs.Words.{same_self}
-use Rattle.writing.specs.Writing.{Small}
-use Rattle.fields.specs.Fields.{fits, is_line, value_at, Fails, LeastFailing, line_from}
-use Rattle.fields.proofs.JoinedLines.{values_from, values-small, line-joined, line-form, word-is}
+use Rattle.text.specs.Text.{comma, index_of, field_of, field_count, same_bytes, number_of, signed_number_of}
+use Rattle.text.proofs.Parts.{three-fields}
+use Rattle.text.proofs.Words.{same_self, same-equal}
+use Rattle.writing.specs.Writing.{Small, gather, number_field, numbers_of}
+use Rattle.writing.proofs.LineFields.{number-field, word-field, line-count, natural-read}
+use Rattle.writing.proofs.ReadBack.{signed-back}
+use Rattle.fields.specs.Fields.{fits, in_range, is_line, numbers_from, value_at, signed_value_at, Fails, LeastFailing, line_from}
+use Rattle.fields.proofs.JoinedLines.{values_from, values-small, field-written, signed-written, line-joined, line-form, word-is}
 use Rattle.fields.proofs.TestsMean.{both-mean, at-most-means, below-means, range-means, there-means}
 use Rattle.fields.proofs.PlainLines.{plain-count, plain_value, plain-line}
 use Rattle.statements.specs.Lines.{circuit_word, output_word, fault_word, bridge_word, is_head, head_fits, is_output, output_fits, is_fault, pair_in_range, pair_fits, fault_fits, lines_exist, rises_at, lines_rise, fault_refusal, is_bridge, bridge_fits, inputs_rise, bridge_refusal, names_bridge, fault_line_refusal}
-use Rattle.statements.specs.LineForms.{HeadForm, OutputForm, flat_pairs, line_of_pair, value_of_pair, FaultPairs, FaultForm, BridgeForm, FaultLineForm}
+use Rattle.statements.specs.LineForms.{HeadForm, output_from, OutputForm, flat_pairs, line_of_pair, value_of_pair, FaultPairs, FaultForm, BridgeForm, FaultLineForm}
 use Rattle.statements.proofs.LineNumbers.{fault-least, bridge-least}
 
 -- ---- the first line
@@ -51,22 +59,61 @@ head-form = record { form = λ l. line-form l circuit_word 5 refl; range = head-
 
 -- ---- outputs
 
-module _ (line weight : ℕ) (small : Small (line ∷ weight ∷ [])) where
-  output-value : (k : ℕ) → value_at (line_from output_word (line ∷ weight ∷ [])) (suc k) ≡ get_or (line ∷ weight ∷ []) k 0
-  unfolding index_of
-  output-value k = plain_value output_word (line ∷ weight ∷ []) small refl k
+-- by its size: from -15 to 15 without 0
+weight-means : (w : ℤ) → (in_range (nat_abs w) 1 15 ≡ true) ↔ ((negsuc 14 ≤ℤ w) × (w ≤ℤ pos 15) × (w ≢ pos 0))
+weight-means w = Iff.trans (range-means refl 1 15) (λ t. (omega (arith, ints, t), omega (arith, ints, t), λ z. omega (arith, ints, t, z)), λ t. (omega (arith, ints, t), omega (arith, ints, t)))
 
-  output-range : (output_fits (line_from output_word (line ∷ weight ∷ [])) ≡ true) ↔ ((1 ≤ line) × (line ≤ 56) × (1 ≤ weight) × (weight ≤ 15))
-  unfolding output_fits fits
-  output-range = Iff.trans (both-mean (range-means (output-value 0) 1 56) (range-means (output-value 1) 1 15)) (λ t. (t.0.0, t.0.1, t.1.0, t.1.1), λ t. ((t.0, t.1), (t.2, t.3)))
+module _ (line : ℕ) (weight : ℤ) (small : line < 10000) where
+  line-read : number_of (field_of (output_from line weight) 1) ≡ Some line
+  unfolding index_of
+  line-read = ap number_of (number-field output_word (pos line ∷ weight ∷ []) 0 refl (omega arith)) ∙ natural-read line small
+
+  pub line-value : value_at (output_from line weight) 1 ≡ line
+  unfolding value_at
+  line-value = rw line-read
+
+  module _ (near : nat_abs weight < 10000) where
+    weight-read : signed_number_of (field_of (output_from line weight) 2) ≡ Some weight
+    unfolding index_of
+    weight-read = ap signed_number_of (number-field output_word (pos line ∷ weight ∷ []) 1 refl (omega arith)) ∙ signed-back weight near
+
+    pub weight-value : signed_value_at (output_from line weight) 2 ≡ weight
+    unfolding signed_value_at
+    weight-value = rw weight-read
+
+    output-written : is_output (output_from line weight) ≡ true
+    unfolding is_output numbers_from index_of
+    output-written =
+        rw (
+          eq-eqb (field_count (output_from line weight)) 3 (line-count output_word (pos line ∷ weight ∷ []) refl),
+          word-field output_word (pos line ∷ weight ∷ []) refl,
+          same_self output_word,
+          line-read,
+          weight-read,
+        )
+
+    output-range : (output_fits (output_from line weight) ≡ true) ↔ ((1 ≤ line) × (line ≤ 56) × (negsuc 14 ≤ℤ weight) × (weight ≤ℤ pos 15) × (weight ≢ pos 0))
+    unfolding output_fits fits
+    output-range = rw weight-value (Iff.trans (both-mean (range-means line-value 1 56) (weight-means weight)) (λ t. (t.0.0, t.0.1, t.1.0, t.1.1, t.1.2), λ t. ((t.0, t.1), (t.2, t.3, t.4))))
+
+pub output-joined : (l : List ℕ) → is_output l ≡ true → (l ≡ output_from (value_at l 1) (signed_value_at l 2)) × (nat_abs (signed_value_at l 2) < 10000)
+unfolding is_output numbers_from numbers_of gather number_field
+output-joined l e =
+    let b = both _ (is_some (signed_number_of (field_of l 2))) e in
+    let c = both (eqb (field_count l) 3 && same_bytes (field_of l 0) output_word) _ b.0 in
+    let d = both (eqb (field_count l) 3) (same_bytes (field_of l 0) output_word) c.0 in
+    let w = signed-written l 2 b.1 in
+    (three-fields l (eqb-true (field_count l) 3 d.0) ∙ fields (same-equal (field_of l 0) output_word d.1) (field-written l 1 (both _ true c.1).0) w.0, w.1)
+  where
+    fields : {a b c x y z : List ℕ} → a ≡ x → b ≡ y → c ≡ z → a ++ (comma ∷ (b ++ (comma ∷ c))) ≡ x ++ (comma ∷ (y ++ (comma ∷ z)))
+    fields e f g = rw (e, f, g)
 
 pub output-form : OutputForm
-unfolding is_output index_of
 output-form =
     record {
-      form = λ l. line-form l output_word 2 refl;
+      form = λ l. (λ e. let j = output-joined l e in (value_at l 1, signed_value_at l 2, (values-small l 1 1).0, j.1, j.0), λ t. ap is_output t.4 ∙ output-written t.0 t.1 t.2 t.3);
       range = output-range;
-      exists = λ top line weight small. at-most-means (output-value line weight small 0) refl;
+      exists = λ top line weight small. at-most-means (line-value line weight small) refl;
     }
 
 -- ---- faults

@@ -1,2 +1,3 @@
 pub mod LineNumbers
 pub mod FormsMeant
+pub mod UnsignedWeights

@@ -1,8 +1,8 @@
--- What the tests of each kind of line ask, said of the numbers that the line is written from (document 01, "The circuit text"; document 02, note 8): the form
+-- What the tests of each kind of line ask, said of the numbers that the line is written from (document 01, "The circuit text"; document 02, notes 4 and 8): the form
 -- without which it is refused by 2, the ranges of 3, and what 4, 5, 6 and 19 compare. A second statement beside `Lines`, which reads fields out of bytes; they agree
 -- (proofs/FormsMeant).
-use Rattle.std.specs.Prelude.{ℕ, suc, ◌<◌, ◌≤◌, true, List, [], ◌∷◌, ◌↔◌, ◌≡◌, leb, length, get_or}
-use Rattle.writing.specs.Writing.{Small}
+use Rattle.std.specs.Prelude.{ℕ, suc, ◌<◌, ◌≤◌, true, List, [], ◌∷◌, ◌++◌, ◌↔◌, ◌≡◌, ◌≢◌, leb, length, get_or, ℤ, pos, negsuc, nat_abs, ◌≤ℤ◌}
+use Rattle.writing.specs.Writing.{Small, numbers_of}
 use Rattle.fields.specs.Fields.{line_from, value_at}
 use Rattle.statements.specs.Lines.{circuit_word, output_word, fault_word, bridge_word, is_head, head_fits, is_output, output_fits, is_fault, fault_fits, lines_exist, lines_rise, fault_refusal, is_bridge, bridge_fits, inputs_rise, bridge_refusal, fault_line_refusal}
 
@@ -12,11 +12,16 @@ pub record HeadForm : Type 0 where
   pub range : (n g m q k : ℕ) → let ns = n ∷ g ∷ m ∷ q ∷ k ∷ [] in Small ns
       → (head_fits (line_from circuit_word ns) ≡ true) ↔ ((1 ≤ n) × (n ≤ 8) × (g ≤ 48) × (1 ≤ m) × (m ≤ 4) × (1 ≤ q) × (q ≤ 32) × (1 ≤ k) × (k ≤ 4))
 
--- "M lines `output,LINE,WEIGHT`: LINE 1 to 56, WEIGHT 1 to 15."
+-- an output's line as it is written, without its end
+abbrev pub output_from : ℕ → ℤ → List ℕ
+output_from line weight = output_word ++ numbers_of (pos line ∷ weight ∷ [])
+
+-- "M lines `output,LINE,WEIGHT`: LINE 1 to 56", "WEIGHT becomes −15 to 15 without 0, written with `-`."
 pub record OutputForm : Type 0 where
-  pub form : (l : List ℕ) → (is_output l ≡ true) ↔ ((ns : List ℕ) × Small ns × (length ns ≡ 2) × (l ≡ line_from output_word ns))
-  pub range : (line weight : ℕ) → let ns = line ∷ weight ∷ [] in Small ns → (output_fits (line_from output_word ns) ≡ true) ↔ ((1 ≤ line) × (line ≤ 56) × (1 ≤ weight) × (weight ≤ 15))
-  pub exists : (top line weight : ℕ) → let ns = line ∷ weight ∷ [] in Small ns → (leb (value_at (line_from output_word ns) 1) top ≡ true) ↔ (line ≤ top)
+  pub form : (l : List ℕ) → (is_output l ≡ true) ↔ ((line : ℕ) × (weight : ℤ) × (line < 10000) × (nat_abs weight < 10000) × (l ≡ output_from line weight))
+  pub range : (line : ℕ) (weight : ℤ) → line < 10000 → nat_abs weight < 10000
+      → (output_fits (output_from line weight) ≡ true) ↔ ((1 ≤ line) × (line ≤ 56) × (negsuc 14 ≤ℤ weight) × (weight ≤ℤ pos 15) × (weight ≢ pos 0))
+  pub exists : (top line : ℕ) (weight : ℤ) → line < 10000 → (leb (value_at (output_from line weight) 1) top ≡ true) ↔ (line ≤ top)
 
 -- LINE,VALUE one after the other
 abbrev pub flat_pairs : List (ℕ × ℕ) → List ℕ

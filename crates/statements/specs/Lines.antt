@@ -1,10 +1,11 @@
 -- What the head, an output and a fault of the circuit text say, and the number by which such a line is refused (document 01, "The circuit text", "What is returned"):
 --   "within a line 2, 3, then 4, 5, 6"
+-- of weights (document 02, note 4): "WEIGHT becomes −15 to 15 without 0, written with `-`." "Weight 0 gives 3, and `-0` is a bad number."
 -- and of a bridge (document 02, note 8): "Turned away: 19 where I or J is above N or they do not rise, in the place of 5 and 6."
 -- A field that is no number, or is not there, counts as 0 where its value is asked; a line with a bad number is refused before that matters.
-use Rattle.std.specs.Prelude.{ℕ, suc, ◌-◌, Bool, cond, ◌&&◌, ◌||◌, List, [], ◌∷◌, eqb, leb, ltb, pos}
-use Rattle.text.specs.Text.{bytes_of, field_of, field_count, same_bytes}
-use Rattle.fields.specs.Fields.{fits, in_range, is_line, unless, value_at}
+use Rattle.std.specs.Prelude.{ℕ, suc, ◌-◌, Bool, cond, ◌&&◌, ◌||◌, List, [], ◌∷◌, eqb, leb, ltb, pos, nat_abs, is_some}
+use Rattle.text.specs.Text.{bytes_of, field_of, field_count, same_bytes, signed_number_of}
+use Rattle.fields.specs.Fields.{fits, in_range, is_line, numbers_from, unless, value_at, signed_value_at}
 use Rattle.statements.specs.Items.{free, no_bridge}
 use Rattle.statements.specs.Items.{Fault}
 use Rattle.statements.specs.declared.Head.{Head}
@@ -36,19 +37,19 @@ head_refusal l = unless (is_head l) 2 (unless (head_fits l) 3 0)
 unfoldable pub head_of : List ℕ → Head
 head_of l = record { inputs = value_at l 1; gates = value_at l 2; outputs = value_at l 3; faults = value_at l 4; cap = value_at l 5 }
 
--- "`output,LINE,WEIGHT`: LINE 1 to 56, WEIGHT 1 to 15"
+-- "`output,LINE,WEIGHT`: LINE 1 to 56", and "WEIGHT becomes −15 to 15 without 0, written with `-`": the one number of a text that may have a sign
 unfoldable pub is_output : List ℕ → Bool
-is_output l = is_line l output_word 1 3
+is_output l = ((eqb (field_count l) 3 && same_bytes (field_of l 0) output_word) && numbers_from l 1 1) && is_some (signed_number_of (field_of l 2))
 
 unfoldable pub output_fits : List ℕ → Bool
-output_fits l = fits l 1 1 56 && fits l 2 1 15
+output_fits l = fits l 1 1 56 && in_range (nat_abs (signed_value_at l 2)) 1 15
 
 -- 5: "output or fault names a line above N+G", which is `top`
 unfoldable pub output_refusal : ℕ → List ℕ → ℕ
 output_refusal top l = unless (is_output l) 2 (unless (output_fits l) 3 (unless (leb (value_at l 1) top) 5 0))
 
 unfoldable pub output_of : List ℕ → Output
-output_of l = record { line = value_at l 1; weight = pos (value_at l 2) }
+output_of l = record { line = value_at l 1; weight = signed_value_at l 2 }
 
 -- "`fault,LINE,VALUE`, with one to three LINE,VALUE pairs"
 unfoldable pub is_fault : List ℕ → Bool
@@ -123,3 +124,10 @@ fault_tests top l = (2, is_fault l) ∷ (3, fault_fits l) ∷ (5, lines_exist to
 
 abbrev pub bridge_tests : ℕ → List ℕ → List (ℕ × Bool)
 bridge_tests inputs l = (2, is_bridge l) ∷ (3, bridge_fits l) ∷ (19, inputs_rise inputs l) ∷ []
+
+-- As it was before weights had a sign (document 01): "WEIGHT 1 to 15".
+unfoldable pub unsigned_refusal : ℕ → List ℕ → ℕ
+unsigned_refusal top l = unless (is_line l output_word 1 3) 2 (unless (fits l 1 1 56 && fits l 2 1 15) 3 (unless (leb (value_at l 1) top) 5 0))
+
+unfoldable pub unsigned_of : List ℕ → Output
+unsigned_of l = record { line = value_at l 1; weight = pos (value_at l 2) }

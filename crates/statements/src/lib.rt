@@ -9,12 +9,12 @@ ghost use Rattle.text.specs.Text.{field_count};
 ghost use Rattle.fields.specs.Fields.{in_range, value_at};
 ghost use Rattle.refusals.specs.Refusals.{Says};
 ghost use Rattle.statements.specs.Items.{Fault};
-ghost use Rattle.statements.specs.Lines.{head_refusal, head_of, output_refusal, output_of, is_fault, fault_refusal, fault_of, bridge_refusal, bridge_of, fault_line_refusal, fault_line_of};
+ghost use Rattle.statements.specs.Lines.{head_refusal, head_of, is_output, output_refusal, output_of, is_fault, fault_refusal, fault_of, bridge_refusal, bridge_of, fault_line_refusal, fault_line_of};
 
 use refusals::Flaw;
 use std::marker::Model;
 
-// The weight is kept in a signed type, since fixtures may come to subtract outputs.
+// The weight is signed: a fixture may subtract an output.
 #[derive(Clone, Copy)]
 pub struct Output {
     pub line: u16,
@@ -168,20 +168,30 @@ pub fn head_line(line: &[u8]) -> Result<Head, Flaw>
     })
 }
 
+// Whether the line is one of an output. Its WEIGHT is the one number of a text that may have a sign.
+#[tactic(auto, unfolding(crate::specs::Lines::is_output))]
+fn is_output(line: &[u8]) -> bool
+    ensures { result ≡ is_output line.now }
+{
+    text::fields(line) == 3
+        && text::same(text::field(line, 0), b"output")
+        && fields::numbers(line, 1, 2)
+        && text::signed_decimal(text::field(line, 2)).is_some()
+}
+
 // `top` is the circuit's last line.
-#[tactic(auto, unfolding(crate::specs::Lines::output_refusal, crate::specs::Lines::is_output, crate::specs::Lines::output_fits, crate::specs::Lines::output_of, fields::specs::Fields::fits, fields::specs::Fields::unless))]
+#[tactic(auto, unfolding(crate::specs::Lines::output_refusal, crate::specs::Lines::output_fits, crate::specs::Lines::output_of, fields::specs::Fields::fits, fields::specs::Fields::unless))]
 pub fn output_line(top: usize, line: &[u8]) -> Result<Output, Flaw>
     ensures { Says result (output_refusal top line.now) (output_of line.now) }
 {
-    Flaw::Malformed.unless(fields::is_line(line, b"output", 1, 3))?;
+    Flaw::Malformed.unless(is_output(line))?;
     let n = fields::value_at(line, 1);
-    let w = fields::value_at(line, 2);
-    Flaw::OutOfRange.unless(fields::in_range(n, 1, 56) && fields::in_range(w, 1, 15))?;
+    let w = fields::signed_value_at(line, 2);
+    // -15 to 15 without 0
+    let fit = fields::in_range(n, 1, 56) && fields::in_range(w.unsigned_abs(), 1, 15);
+    Flaw::OutOfRange.unless(fit)?;
     Flaw::NoSuchLine.unless(n as usize <= top)?;
-    Ok(Output {
-        line: n,
-        weight: w as i16,
-    })
+    Ok(Output { line: n, weight: w })
 }
 
 // Whether the line, which has so many fields, is one of a fault: one to three pairs.

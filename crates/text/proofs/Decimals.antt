@@ -5,19 +5,22 @@
 --   digit_low, digit-high, digit-step, digit-end             what one turn of the loop over the digits shows
 --   ten-le       powers of ten grow
 --   digit_steps  these laws, for the proof of `decimal`
-use mathlib.Core.Path.{◌≡◌, refl}
+--   negative-is, signed_steps    a number below zero, for the proof of `signed_decimal`
+use mathlib.Core.Path.{◌≡◌, refl, sym, ap, ◌∙◌}
 use mathlib.Core.Bool.{Bool, true, false, not, cond, ◌&&◌, ◌||◌, and-false, or-true}
 use mathlib.Core.List.{List, [], ◌∷◌}
 use mathlib.Core.Logic.{◌⊎◌, inl, inr}
-use Prim.Native.Nat.{ℕ, ◌+◌, ◌-◌, ◌*◌, ◌^◌, ◌<◌, ◌≤◌}
+use Prim.Native.Nat.{ℕ, zero, suc, ◌+◌, ◌-◌, ◌*◌, ◌^◌, ◌<◌, ◌≤◌}
 use native.Mathlib.Nat.{pow-succ', pow-le-pow_right, mul_assoc, mul-le-mul_right, lt_of_lt_of_le}
 use native.Mathlib.Omega.{arith}
+use lib.IntN.{pos, negsuc, ◌-ℤ◌, +ℤ_idl}
 use lib.ListN.{length, drop, get_or, drop_of_length-le}
 use lib.Dec.{eqb, leb, lit<}
 use borrow.Author.Tests.{eq-eqb, ne_eqb, le-leb, lt-leb, leb-true}
+use Rattle.std.proofs.lemmas.Int.{to_z-of_z}
 use Rattle.integer.proofs.Bools.{both}
 use Rattle.std.specs.Prelude.{Option, Some, None}
-use Rattle.text.specs.Text.{digits, decimal_from, well_formed, number_of}
+use Rattle.text.specs.Text.{digits, decimal_from, well_formed, number_of, negative_number}
 use Rattle.text.proofs.Parts.{step}
 
 pub ten-le : {i j : ℕ} → i ≤ j → 10 ^ i ≤ 10 ^ j
@@ -89,3 +92,10 @@ unfolding number_from digits decimal_from
 digit-end v l i h = rw (drop_of_length-le l h)
 
 pub ruleset digit_steps = (number-empty, number-long, number-zero, number_digits, digit_low, digit-high, digit-step, digit-end)
+
+-- below zero
+pub negative-is : (l : List ℕ) (v : ℕ) → number_of l ≡ Some v → (v ≡ 0 → ⊥) → negative_number (number_of l) ≡ Some (pos 0 -ℤ pos v)
+negative-is l zero e some = absurd (some refl)
+negative-is l (suc v) e some = ap negative_number e ∙ ap Some (sym (+ℤ_idl (negsuc v)))
+
+pub ruleset signed_steps = (number-le, negative-is, to_z-of_z)

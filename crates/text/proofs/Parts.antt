@@ -5,6 +5,7 @@
 --                    a scan from `at` that stops at e, the first b from there on: what it cuts off, what it leaves, whether there was a b
 --   field-part, field-within    field k is the part of the list that starts at its index
 --   only-field, first-separated    a list is its only field, or its first field, a comma, and what stands after it
+--   three-fields     a list of three fields is these with commas between
 --   no_field         where there is no field k it is the empty part at the list's end
 --   span-within, span-field     the same for the two ends that `locate` hands back
 --   fields_counted, index-hit, index-miss, index-end
@@ -214,6 +215,16 @@ module _ (l : List ℕ) where
       go : Dec (length l ≤ index_of comma l) → (field_count l ≡ suc (field_count (after comma l))) × (l ≡ before comma l ++ (comma ∷ after comma l))
       go (yes none) = absurd (omega (arith, h, one-count l none))
       go (no some) = (count-suc l (lt_of_not-le some), split-first comma l (lt_of_not-le some))
+
+pub three-fields : (l : List ℕ) → field_count l ≡ 3 → l ≡ field_of l 0 ++ (comma ∷ (field_of l 1 ++ (comma ∷ field_of l 2)))
+unfolding field_of
+three-fields l c =
+    let p = first-separated l (omega (arith, c)) in
+    let q = first-separated (after comma l) (omega (arith, c, p.0)) in
+    let r = only-field (after comma (after comma l)) (omega (arith, c, p.0, q.0)) in
+    p.1
+    ∙ ap (λ (m : List ℕ). field_of l 0 ++ (comma ∷ m)) q.1
+    ∙ ap (λ (m : List ℕ). field_of l 0 ++ (comma ∷ (field_of (after comma l) 0 ++ (comma ∷ m)))) r
 
 pub no_field : (l : List ℕ) (k : ℕ) → field_count l ≤ k → (field_of l k ≡ []) × (field_start l k ≡ length l)
 no_field l zero h = absurd (omega (arith, some-field l))

@@ -2,9 +2,10 @@
 --   "Fields stand in fixed order, parted by commas, with no quoting. A line ends in one byte 0A hexadecimal."
 --   "The words are compared byte for byte."
 --   "A number is 1 to 4 decimal digits, with no leading zero except in `0` itself."
+-- and a number that may have a sign (document 02, note 4): "written with `-`" "`-0` is a bad number".
 use Prim.Native.Char.{code}
 use Prim.Native.String.{String, [] as none, ◌∷◌ as ◌then◌}
-use Rattle.std.specs.Prelude.{ℕ, zero, suc, ◌+◌, ◌-◌, ◌*◌, Bool, true, false, not, cond, ◌&&◌, ◌||◌, List, [], ◌∷◌, length, take, drop, get_or, eqb, leb, ltb, Option, Some, None}
+use Rattle.std.specs.Prelude.{ℕ, zero, suc, ◌+◌, ◌-◌, ◌*◌, Bool, true, false, not, cond, ◌&&◌, ◌||◌, List, [], ◌∷◌, length, take, drop, get_or, eqb, leb, ltb, Option, Some, None, option_map, ℤ, pos, negsuc}
 
 -- the bytes of a word of ASCII
 abbrev pub bytes_of : String → List ℕ
@@ -76,3 +77,16 @@ well_formed l = (leb 1 (length l) && leb (length l) 4) && ((eqb (length l) 1 || 
 
 unfoldable pub number_of : List ℕ → Option ℕ
 number_of l = cond (well_formed l) (Some (decimal_from 0 l)) None
+
+abbrev pub minus_sign : ℕ
+minus_sign = 45
+
+-- the negative of a number other than 0
+abbrev pub negative_number : Option ℕ → Option ℤ
+negative_number None = None
+negative_number (Some zero) = None
+negative_number (Some (suc v)) = Some (negsuc v)
+
+-- a number, or `-` and a number other than 0
+unfoldable pub signed_number_of : List ℕ → Option ℤ
+signed_number_of l = cond (eqb (get_or l 0 0) minus_sign) (negative_number (number_of (drop 1 l))) (option_map pos (number_of l))

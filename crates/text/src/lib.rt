@@ -2,7 +2,7 @@
 #![tactic(auto)]
 
 ghost use Rattle.std.specs.Prelude.{◌≡◌, ◌+◌, length, drop};
-ghost use Rattle.text.specs.Text.{index_of, field_of, field_start, further, field_count, same_bytes, number_of};
+ghost use Rattle.text.specs.Text.{index_of, field_of, field_start, further, field_count, same_bytes, number_of, signed_number_of};
 
 use std::ops::Range;
 
@@ -84,4 +84,18 @@ pub fn decimal(s: &[u8]) -> Option<u16>
         v = v * 10 + u16::from(x - b'0');
     }
     Some(v)
+}
+
+// The number that a field says where it may have a sign: as `decimal` reads it, or `-` and such a number other than 0.
+#[tactic(auto, using(crate::proofs::Decimals::signed_steps), unfolding(crate::specs::Text::signed_number_of))]
+pub fn signed_decimal(s: &[u8]) -> Option<i16>
+    ensures { result ≡ signed_number_of s.now }
+{
+    match s {
+        [b'-', digits @ ..] => match decimal(digits)? {
+            0 => None,
+            size => Some(-(size as i16)),
+        },
+        _ => Some(decimal(s)? as i16),
+    }
 }

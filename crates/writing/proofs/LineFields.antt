@@ -19,9 +19,9 @@ use borrow.Author.Tests.{lt-ltb, eq-eqb, ne_eqb, leb-true, ltb-false}
 use Rattle.integer.proofs.Bools.{both, neither}
 use Rattle.integer.specs.ListTests.{any}
 use Rattle.integer.specs.Tab.{nth}
-use Rattle.text.specs.Text.{comma, line_end, index_of, before, after, has_byte, field_of, field_count, digits, number_of}
+use Rattle.text.specs.Text.{comma, line_end, index_of, before, after, has_byte, field_of, field_count, digits, number_of, minus_sign}
 use Rattle.std.specs.Prelude.{Some}
-use Rattle.writing.specs.Writing.{Small, decimal_of, minus_sign, integer_of, gather, number_field, numbers_of, line_of}
+use Rattle.writing.specs.Writing.{Small, decimal_of, integer_of, gather, number_field, numbers_of, line_of}
 use Rattle.writing.proofs.ReadBack.{digits-only, read_back, decimal-rises}
 use Rattle.writing.proofs.Writings.{natural-written, line-long}
 

@@ -1,6 +1,7 @@
 -- What is written in decimal is read as the same number:
 --   read-back        a number below 10,000, as a field of a text
 --   number-only      the other way: a field that is a number is the decimal of its value
+--   signed-back, signed-only    the same of integers, where a field may have a sign
 --   digits-read      of any size, by its digits
 --   digits-only      nothing but digits is written
 --   decimal-rises    a larger number has no fewer digits
@@ -11,14 +12,15 @@ use mathlib.Core.Logic.{◌⊎◌, inl, inr}
 use Prim.Native.Nat.{ℕ, zero, suc, ◌+◌, ◌-◌, ◌*◌, ◌/◌, ◌^◌, ◌<◌, ◌≤◌}
 use native.Mathlib.Omega.{arith}
 use lib.Dec.{ltb, leb, eqb}
-use lib.ListN.{length, get_or}
+use lib.IntN.{ℤ, pos, negsuc, nat_abs}
+use lib.ListN.{length, get_or, drop}
 use borrow.Author.Tests.{ltb-true, ltb-false, le-leb, leb-true, ne_eqb, eqb-true, eqb-false, not-true}
 use Rattle.integer.proofs.Bools.{both, either}
-use Rattle.text.specs.Text.{digits, decimal_from, well_formed, number_of}
-use Rattle.text.proofs.Decimals.{decimal-lt}
-use Rattle.std.specs.Prelude.{Some, None}
-use Rattle.writing.specs.Writing.{decimal_digit, decimal_to, decimal_of}
-use Rattle.writing.proofs.Writings.{tenth, decimal-one, decimal-more, decimal-length}
+use Rattle.text.specs.Text.{digits, decimal_from, well_formed, number_of, minus_sign, negative_number, signed_number_of}
+use Rattle.text.proofs.Decimals.{decimal-lt, number-le}
+use Rattle.std.specs.Prelude.{Option, Some, None, option_map}
+use Rattle.writing.specs.Writing.{decimal_digit, decimal_to, decimal_of, integer_of}
+use Rattle.writing.proofs.Writings.{tenth, decimal-one, decimal-more, decimal-length, natural-written}
 
 from_last : (v x : ℕ) (l : List ℕ) → decimal_from v (l ++ (x ∷ [])) ≡ decimal_from v l * 10 + (x - 48)
 unfolding decimal_from
@@ -165,3 +167,48 @@ number-only l v e = by (well_formed l) (formed-only l) e
     by : (t : Bool) → (t ≡ true → l ≡ decimal_of (decimal_from 0 l)) → cond t (Some (decimal_from 0 l)) None ≡ Some v → l ≡ decimal_of v
     by true h e = let q : decimal_from 0 l ≡ v = cc in h refl ∙ ap decimal_of q
     by false h e = let z : ◌≡◌ {A = ℕ} 0 1 = cc in absurd (omega arith)
+
+-- ---- a field that may have a sign
+
+-- what begins with a digit has none
+digit-first : (l : List ℕ) → digits l ≡ true → eqb (get_or l 0 0) minus_sign ≡ false
+unfolding digits
+digit-first [] e = refl
+digit-first (x ∷ l) e = ne_eqb x minus_sign (λ q. omega (arith, (digit-range x (both (leb 48 x && leb x 57) (digits l) e).0).0))
+
+unsigned-read : (l : List ℕ) (v : ℕ) → number_of l ≡ Some v → signed_number_of l ≡ Some (pos v)
+unfolding signed_number_of
+unsigned-read l v e = rw (digit-first l (subst (λ (m : List ℕ). digits m ≡ true) (sym (number-only l v e)) (digits-only v))) (ap (option_map pos) e)
+
+pub signed-back : (z : ℤ) → nat_abs z < 10000 → signed_number_of (integer_of z) ≡ Some z
+unfolding signed_number_of integer_of
+signed-back (pos n) h = ap signed_number_of (natural-written n) ∙ unsigned-read (decimal_of n) n (read_back n h)
+signed-back (negsuc n) h = ap negative_number (read_back (suc n) h)
+
+pub signed-only : (l : List ℕ) (z : ℤ) → signed_number_of l ≡ Some z → (l ≡ integer_of z) × (nat_abs z < 10000)
+unfolding signed_number_of integer_of
+signed-only l z = by (eqb (get_or l 0 0) minus_sign) refl
+  where
+    sign-first : (l : List ℕ) → eqb (get_or l 0 0) minus_sign ≡ true → l ≡ minus_sign ∷ drop 1 l
+    sign-first [] e = absurd (false≢true e)
+    sign-first (x ∷ l) e = ap (λ (y : ℕ). y ∷ l) (eqb-true x minus_sign e)
+
+    below-zero : eqb (get_or l 0 0) minus_sign ≡ true → (n : Option ℕ) → number_of (drop 1 l) ≡ n → negative_number n ≡ Some z → (l ≡ integer_of z) × (nat_abs z < 10000)
+    below-zero s None q e = let z : ◌≡◌ {A = ℕ} 0 1 = cc in absurd (omega arith)
+    below-zero s (Some zero) q e = let z : ◌≡◌ {A = ℕ} 0 1 = cc in absurd (omega arith)
+    below-zero s (Some (suc v)) q e =
+        let is : negsuc v ≡ z = cc in
+        subst (λ (z : ℤ). (l ≡ integer_of z) × (nat_abs z < 10000)) is
+        (sign-first l s ∙ ap (λ (m : List ℕ). minus_sign ∷ m) (number-only (drop 1 l) (suc v) q), omega (arith, number-le (drop 1 l) (suc v) q))
+
+    from-zero : (n : Option ℕ) → number_of l ≡ n → option_map pos n ≡ Some z → (l ≡ integer_of z) × (nat_abs z < 10000)
+    from-zero None q e = let z : ◌≡◌ {A = ℕ} 0 1 = cc in absurd (omega arith)
+    from-zero (Some v) q e =
+        let is : pos v ≡ z = cc in
+        subst (λ (z : ℤ). (l ≡ integer_of z) × (nat_abs z < 10000)) is
+        (number-only l v q ∙ sym (natural-written v), omega (arith, number-le l v q))
+
+    by : (t : Bool) → eqb (get_or l 0 0) minus_sign ≡ t → cond t (negative_number (number_of (drop 1 l))) (option_map pos (number_of l)) ≡ Some z
+        → (l ≡ integer_of z) × (nat_abs z < 10000)
+    by true s e = below-zero s (number_of (drop 1 l)) refl e
+    by false s e = from-zero (number_of l) refl e

@@ -21,8 +21,8 @@ use lib.Seq.{length-take-le, drop-append-add, drop-drop, set_split, take_at}
 use borrow.Author.Tests.{lt-ltb, le-ltb, ltb-true, ltb-false}
 use Rattle.std.proofs.lemmas.Int.{to_z-of_z}
 use Rattle.integer.specs.Tab.{nth}
-use Rattle.text.specs.Text.{comma, line_end}
-use Rattle.writing.specs.Writing.{placed, decimal_digit, decimal_to, decimal_of, minus_sign, integer_of, number_field, gather, numbers_of, line_of}
+use Rattle.text.specs.Text.{comma, line_end, minus_sign}
+use Rattle.writing.specs.Writing.{placed, decimal_digit, decimal_to, decimal_of, integer_of, number_field, gather, numbers_of, line_of}
 
 -- where what was placed ends
 front : (at : ℕ) (new out : List ℕ) → at + length new ≤ length out → length (take at out ++ new) ≡ at + length new

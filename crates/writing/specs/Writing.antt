@@ -3,7 +3,7 @@
 use Rattle.std.specs.Prelude.{ℕ, zero, suc, ◌+◌, ◌/◌, ◌%◌, ◌<◌, cond, List, [], ◌∷◌, ◌++◌, ltb, ℤ, pos, nat_abs, length, take, drop}
 use Rattle.std.specs.Int.Signed.{lt_z}
 use Rattle.integer.specs.Tab.{nth}
-use Rattle.text.specs.Text.{comma, line_end}
+use Rattle.text.specs.Text.{comma, line_end, minus_sign}
 
 -- `new` from index `at` on, everything else as it was
 unfoldable pub placed : ℕ → List ℕ → List ℕ → List ℕ
@@ -19,9 +19,6 @@ decimal_to (suc most) n = cond (ltb n 10) (decimal_digit n ∷ []) (decimal_to m
 
 unfoldable pub decimal_of : ℕ → List ℕ
 decimal_of n = decimal_to (suc n) n
-
-abbrev pub minus_sign : ℕ
-minus_sign = 45
 
 unfoldable pub integer_of : ℤ → List ℕ
 integer_of z = cond (lt_z z (pos 0)) (minus_sign ∷ decimal_of (nat_abs z)) (decimal_of (nat_abs z))

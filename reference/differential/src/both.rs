@@ -5,7 +5,7 @@ use crate::calls::{self, assert_refused, library_circuit, library_plan, refused}
 use crate::lent::{surround, Shown};
 use crate::library::{self, Signature};
 use crate::outcomes::Outcomes;
-use second::circuits::{with_line, Draft};
+use second::circuits::{with_line, Damage, Draft};
 use second::devices;
 use second::lines::TEXT_LIMIT;
 use second::plan::{CAP_LIMIT, WORKING_NUMBERS};
@@ -65,6 +65,73 @@ impl Both {
         calls::reading(&mut self.random, text, mask, values);
         calls::pair(&mut self.random, text, fault, mask, values);
         found
+    }
+
+    /// Every call on twenty of the longest texts that there are, of this length,
+    /// with their silent faults and without.
+    pub fn longest_texts(&mut self, largest: fn(&mut Random) -> Draft, length: usize) {
+        let mut changing = 0;
+        for round in 0..20 {
+            let draft = largest(&mut self.random);
+            let text = draft.text();
+            assert_eq!(text.len(), length);
+            changing += self.every_fault(&draft);
+            self.plan_and_report(&text);
+            let planned = draft.without_silent().expect("a fault that changes rows");
+            // Without a plan the second implementation tries every set.
+            self.plan_and_report(&planned.with_cap(1 + round % 2).text());
+            let found = calls::reading(&mut self.random, &text, round as u32, 0);
+            assert_eq!(found.number, 0);
+            for fault in 1..=32 {
+                let found = calls::pair(&mut self.random, &text, fault, 0, 0);
+                assert_eq!(found.number, 0);
+            }
+        }
+        self.outcomes
+            .assert_seen(&[(0, 20 * 33 + 20), (13, 20), (14, 0)]);
+        assert!(changing > 300, "faults that change rows: {changing}");
+    }
+
+    /// Plans of drawn circuits without silent faults, of every size and none.
+    pub fn plans_without_silent_faults(&mut self, draw: fn(&mut Random, usize) -> Draft) {
+        for round in 0..600 {
+            // Without a plan the second implementation tries every set.
+            let draft = draw(&mut self.random, 1 + round % 6);
+            self.plan_and_report(&draft.text());
+            if round % 4 == 0 {
+                self.caps_and_orders(&draft);
+            }
+        }
+        self.outcomes.assert_seen(&[(0, 1000), (14, 150)]);
+        self.assert_sizes([500, 200, 40, 10]);
+    }
+
+    /// Every damage on drawn circuits, by the circuit call and now and then by every
+    /// call; each must be refused so often at least.
+    pub fn damaged_circuits(
+        &mut self,
+        damages: &[&Damage],
+        rounds: usize,
+        least: usize,
+        draw: impl Fn(&mut Random, usize) -> Draft,
+    ) {
+        let mut damaged = vec![0; damages.len()];
+        for round in 0..rounds {
+            let draft = draw(&mut self.random, round);
+            for (damage, refused) in damages.iter().zip(&mut damaged) {
+                let text = (damage.apply)(&mut self.random, &draft);
+                let fault = self.random.below(draft.sizes.faults + 2) as u32;
+                let room = self.random.room(1 << draft.sizes.inputs);
+                let (number, _) = self.circuit(&text, fault, room);
+                *refused += usize::from((2..=7).contains(&number));
+                if round % 8 < 2 {
+                    self.every_call(&text, fault, room);
+                }
+            }
+        }
+        for (damage, refused) in damages.iter().zip(damaged) {
+            assert!(refused > least, "{}: refused {refused} times", damage.name);
+        }
     }
 
     /// What every call refuses the text by, but that readings take no tables;
@@ -169,6 +236,13 @@ impl Both {
                 assert_eq!(found, (2, 1), "{}", Shown(rest));
             }
         }
+    }
+
+    /// Every byte removed, changed and inserted, under one of the first two faults.
+    pub fn every_byte(&mut self, text: &[u8]) {
+        with_every_byte(text, |text| {
+            self.circuit(text, 1 + (text.len() % 2) as u32, 256);
+        });
     }
 
     /// Every number of a good text replaced by others, good ones and bad ones.
@@ -384,6 +458,8 @@ pub fn badly_written(line: &str) -> Vec<String> {
         true => ",1,1,1",
         false => ",1",
     };
+    // A weight may have one minus.
+    let negative = if word == "output" { "--1" } else { "-1" };
     let mut lines = vec![
         String::new(),
         word.to_string(),
@@ -402,8 +478,8 @@ pub fn badly_written(line: &str) -> Vec<String> {
         format!("{start},"),
     ];
     let numbers = [
-        "00", "01", "02", "001", "0000", "00000", "10000", "00001", "-1", "-0", "+1", "1.", "1e0",
-        "a", "0x1", "1_", "\u{661}", "/", ":", "-",
+        "00", "01", "02", "001", "0000", "00000", "10000", "00001", negative, "-0", "+1", "1.",
+        "1e0", "a", "0x1", "1_", "\u{661}", "/", ":", "-",
     ];
     lines.extend(numbers.map(|number| format!("{start},{number}")));
     lines

@@ -3,7 +3,7 @@
 //! that is lent. Then what follows from note 8 without it. The call on
 //! coefficients is in walsh.rs, readings and pairs are in reading.rs.
 
-use differential::both::{badly_written, with_every_byte, Both};
+use differential::both::{badly_written, Both};
 use differential::calls::{library_circuit, library_plan, library_report, of_labels, refused};
 use differential::lent::Shown;
 use differential::library;
@@ -820,9 +820,7 @@ fn every_prefix_and_every_byte() {
         both.every_prefix(&text);
     }
     for text in [LISTING_WITH_A_BRIDGE, BRIDGED_TABLE] {
-        with_every_byte(text.as_bytes(), |text| {
-            both.circuit(text, 1 + (text.len() % 2) as u32, 256);
-        });
+        both.every_byte(text.as_bytes());
     }
     both.outcomes.assert_seen(&[
         (0, 200),

@@ -14,6 +14,7 @@ use second::circuits::{
 use second::lines::{self, Fault, StuckLine, TEXT_LIMIT};
 use second::netlist::{self, Netlist, CIRCUIT_LIMIT};
 use second::random::Random;
+use second::signed_texts::input_of_weight;
 use second::walsh;
 
 const SEED: u64 = 0x4e45_544c_4953_5400;
@@ -174,9 +175,7 @@ fn each_input_as_an_output() {
     for inputs in 1..=8 {
         for input in 1..=inputs {
             let weight = both.random.between(1, 15);
-            let text = format!(
-                "circuit,{inputs},0,1,2,1\noutput,{input},{weight}\nfault,{input},0\nfault,{input},1\n"
-            );
+            let text = input_of_weight(inputs, input, weight);
             let half = weight << (inputs - 1);
             let mut due = vec![0; 1 << inputs];
             (due[0], due[1 << (input - 1)]) = (half, -half);
@@ -487,6 +486,15 @@ fn ranges_at_their_ends() {
         expect_line(&mut both, 6, &format!("output,{number},1"), due(there, 5));
         let weight = if (1..=15).contains(&number) { 0 } else { 3 };
         expect_line(&mut both, 6, &format!("output,7,{number}"), weight);
+        // The weight alone may have a sign, but not of 0.
+        let negative = if number == 0 { 2 } else { weight };
+        expect_line(&mut both, 6, &format!("output,7,-{number}"), negative);
+        for line in ["output,-7", "output,07", "output,7,-", "output,7,1"] {
+            expect_line(&mut both, 6, &format!("{line},-{number}"), 2);
+        }
+        expect_line(&mut both, 6, &format!("output,-{number},1"), 2);
+        expect_line(&mut both, 4, &format!("gate,or,1,-{number}"), 2);
+        expect_line(&mut both, 7, &format!("fault,7,-{number}"), 2);
         expect_line(&mut both, 7, &format!("fault,{number},0"), due(there, 5));
         let value = if number <= 1 { 0 } else { 3 };
         expect_line(&mut both, 7, &format!("fault,7,{number}"), value);
@@ -499,7 +507,7 @@ fn ranges_at_their_ends() {
         expect_line(&mut both, 7, &format!("fault,3,0,{number},1"), last);
     }
     both.outcomes
-        .assert_seen(&[(0, 50), (2, 90), (3, 400), (4, 100), (5, 100), (6, 3)]);
+        .assert_seen(&[(0, 65), (2, 500), (3, 400), (4, 100), (5, 100), (6, 3)]);
 }
 
 #[test]
@@ -666,10 +674,16 @@ fn bad_lines(place: usize) -> &'static [(&'static str, u32)] {
             ("output,57,", 2),
             ("output,8,16,", 2),
             ("output,8,016", 2),
+            ("output,57,-0", 2),
+            ("output,-8,-16", 2),
+            ("output,8,--16", 2),
             ("output,8,16", 3),
+            ("output,8,-16", 3),
             ("output,8,0", 3),
             ("output,57,1", 3),
+            ("output,57,-1", 3),
             ("output,8,1", 5),
+            ("output,8,-15", 5),
             ("output,56,15", 5),
         ],
         _ => &[

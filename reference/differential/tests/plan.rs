@@ -15,6 +15,7 @@ use second::circuits::{
 use second::devices;
 use second::lines::TEXT_LIMIT;
 use second::plan::{Spectra, CAP_LIMIT, WORKING_NUMBERS};
+use second::signed_texts::{self, with_signs};
 use second::table_texts::draw_changing;
 use second::wide_texts;
 
@@ -252,13 +253,17 @@ fn four_labels_of_every_count_of_inputs() {
             let labels = near_labels(&mut both.random, inputs, 4);
             let weights = [0; 4].map(|_| 1 + both.random.below(15));
             let sketch = Sketch::complemented(inputs, &labels, &weights);
-            let text = sketch.draft(4).text();
-            assert_eq!(both.plan(&text), of_labels(&ordered(&labels)));
-            both.report(&text);
+            let plain = sketch.draft(4);
+            // A sign moves no label.
+            let signed = with_signs(&mut both.random, &plain);
+            for text in [plain.text(), signed.text()] {
+                assert_eq!(both.plan(&text), of_labels(&ordered(&labels)));
+                both.report(&text);
+            }
         }
     }
-    both.outcomes.assert_seen(&[(0, 144)]);
-    both.assert_sizes([0, 0, 0, 72]);
+    both.outcomes.assert_seen(&[(0, 288)]);
+    both.assert_sizes([0, 0, 0, 144]);
 }
 
 #[test]
@@ -370,6 +375,15 @@ fn no_subset_goes_before_under_bridges() {
     });
     both.outcomes.assert_seen(&[(0, 400), (14, 20)]);
     both.assert_sizes([300, 50, 10, 1]);
+}
+
+#[test]
+fn no_subset_goes_before_with_signed_weights() {
+    let both = assert_no_subset_goes_before(26, |both, _, inputs| {
+        signed_texts::draw_changing(&mut both.random, inputs)
+    });
+    both.outcomes.assert_seen(&[(0, 400), (14, 20)]);
+    both.assert_sizes([200, 50, 10, 1]);
 }
 
 #[test]
@@ -720,6 +734,19 @@ fn reports_under_bridges_agree_with_the_plan_and_the_circuit_call() {
     let mut both = Both::new(SEED + 44);
     let later = assert_reports_agree(&mut both, |both, inputs| {
         bridge_texts::draw_changing(&mut both.random, inputs).with_cap(CAP_LIMIT)
+    });
+    both.outcomes.assert_seen(&[(0, 400)]);
+    assert!(
+        later > 300,
+        "faults not covered by the first label: {later}"
+    );
+}
+
+#[test]
+fn reports_with_signed_weights_agree_with_the_plan_and_the_circuit_call() {
+    let mut both = Both::new(SEED + 46);
+    let later = assert_reports_agree(&mut both, |both, inputs| {
+        signed_texts::draw_changing(&mut both.random, inputs).with_cap(CAP_LIMIT)
     });
     both.outcomes.assert_seen(&[(0, 400)]);
     assert!(

@@ -16,6 +16,7 @@ use second::lines::TEXT_LIMIT;
 use second::netlist;
 use second::random::Random;
 use second::reading::quotient;
+use second::signed_texts::{every_weight, input_of_weight};
 use second::walsh::bridged_rows;
 use second::wide_texts::widened;
 use std::collections::BTreeMap;
@@ -474,14 +475,11 @@ fn each_input_as_an_output() {
     // x_i of weight w: w/2, and w or 0 where input i is fixed.
     for inputs in 1..=8 {
         for input in 1..=inputs {
-            for weight in 1..=15 {
-                let text = format!(
-                    "circuit,{inputs},0,1,2,1\noutput,{input},{weight}\n\
-                     fault,{input},0\nfault,{input},1\n"
-                );
+            for weight in every_weight() {
+                let text = input_of_weight(inputs, input, weight);
                 let text = text.as_bytes();
                 let all = f64::from(weight);
-                let kind = if weight > 1 { WEIGHTED } else { PLAIN };
+                let kind = if weight == 1 { PLAIN } else { WEIGHTED };
                 let due = Measured::new(kind, 0, Bits::of(all / 2.0));
                 assert_eq!(measured(text, 0, 0), due, "x{input} of {inputs}");
                 for other in 1..=inputs {
@@ -507,7 +505,7 @@ fn cases_by_outputs_weights_and_masks() {
     let mut both = Both::new(3);
     for outputs in 1..=4 {
         for heavy in 0..=outputs {
-            for weight in 2..=15 {
+            for weight in every_weight().filter(|&weight| weight != 1) {
                 // Output `heavy` has the weight, the others 1; 0 is none.
                 let lines: String = (1..=outputs)
                     .map(|at| format!("output,1,{}\n", if at == heavy { weight } else { 1 }))
@@ -532,6 +530,7 @@ fn cases_by_outputs_weights_and_masks() {
         for text in [
             HALF_AND_A_ROW.to_string(),
             HALF_AND_A_ROW.replace("t,15,1", "t,15,7"),
+            HALF_AND_A_ROW.replace("t,15,1", "t,15,-1"),
         ] {
             let values = both.random.noise() as u32 & mask;
             let found = both.reading(text.as_bytes(), mask, values);
@@ -539,8 +538,8 @@ fn cases_by_outputs_weights_and_masks() {
             assert_eq!((found.kind, found.fixed), (CONSTRAINED, fixed), "{mask}");
         }
     }
-    both.outcomes.assert_seen(&[(0, 1500)]);
-    both.assert_kinds([14, 180, 1400]);
+    both.outcomes.assert_seen(&[(0, 3100)]);
+    both.assert_kinds([29, 370, 2700]);
 }
 
 // Random circuits.

@@ -11,6 +11,10 @@ use second::lines::TEXT_LIMIT;
 use second::plan::WORKING_NUMBERS;
 use second::random::Random;
 use second::report::{self, REPORT_ROOM};
+use second::signed_texts::{
+    constant, draw_changing as draw_signed, largest as longest_signed, CANCELLED_FAULT,
+    OUTPUT_DAMAGES, SUBTRACTED_INPUT, SUBTRACTED_LISTING,
+};
 use second::table_texts::{
     draw, draw_changing, largest, ANOTHER_MARK, MARK_DAMAGES, SHORT_MARKS, SILENT_INPUT, SMALL,
 };
@@ -148,6 +152,37 @@ fn circuits_of_wide_gates() {
         let draft = draw_wide(&mut random, 1 + round % 6);
         assert_reports_at_once("drawn", &draft.text());
         let damage = &GATE_DAMAGES[round % GATE_DAMAGES.len()];
+        let text = (damage.apply)(&mut random, &draft);
+        assert_reports_at_once(damage.name, &text);
+    }
+}
+
+#[test]
+fn circuits_of_signed_weights() {
+    for (text, due) in [
+        (
+            SUBTRACTED_LISTING,
+            "plan,1\nlabel,1,2\nfault,1,1,0\nfault,2,1,4\n",
+        ),
+        (
+            SUBTRACTED_INPUT,
+            "plan,1\nlabel,0,-15\nfault,1,0,0\nfault,2,0,-30\n",
+        ),
+        (CANCELLED_FAULT, "refused,13,1\n"),
+    ] {
+        let written = run(&[text.as_bytes()], Duration::ZERO);
+        assert_eq!(String::from_utf8_lossy(&written), due, "{text}");
+    }
+    let mut random = Random::new(SEED + 4);
+    assert_reports_at_once("longest", &longest_signed(&mut random).text());
+    for weight in [15, -15] {
+        let text = constant(8, &[weight; 4]).text();
+        assert_reports_at_once("the ends of the range", &text);
+    }
+    for round in 0..48 {
+        let draft = draw_signed(&mut random, 1 + round % 6);
+        assert_reports_at_once("drawn", &draft.text());
+        let damage = &OUTPUT_DAMAGES[round % OUTPUT_DAMAGES.len()];
         let text = (damage.apply)(&mut random, &draft);
         assert_reports_at_once(damage.name, &text);
     }
@@ -323,7 +358,11 @@ fn usual_causes_of_refusals() {
         ("comma at the end", with(3, "gate,and,1,2,"), "2,3"),
         ("blank line between", with(5, "gate,or,5,6\n"), "2,6"),
         ("comment between", with(5, "gate,or,5,6\n# out"), "2,6"),
-        ("weight with a sign", with(6, "output,7,-1"), "2,6"),
+        ("a plus before a weight", with(6, "output,7,+1"), "2,6"),
+        ("weight of -0", with(6, "output,7,-0"), "2,6"),
+        ("a long minus", with(6, "output,7,\u{2212}1"), "2,6"),
+        ("LINE with a sign", with(6, "output,-7,1"), "2,6"),
+        ("VALUE with a sign", with(7, "fault,2,-1"), "2,7"),
         ("four pairs", with(7, "fault,1,0,2,0,3,0,4,0"), "2,7"),
         ("no VALUE", with(7, "fault,2"), "2,7"),
         ("no line end", text(LISTING.trim_end().into()), "2,8"),
@@ -338,6 +377,7 @@ fn usual_causes_of_refusals() {
         ("LINE of 57", with(6, "output,57,1"), "3,6"),
         ("weight of 0", with(6, "output,7,0"), "3,6"),
         ("weight of 16", with(6, "output,7,16"), "3,6"),
+        ("weight of -16", with(6, "output,7,-16"), "3,6"),
         ("VALUE of 2", with(7, "fault,2,2"), "3,7"),
         ("its own line", with(3, "gate,and,1,5"), "4,3"),
         ("a later line", with(3, "gate,and,1,6"), "4,3"),

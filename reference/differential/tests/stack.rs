@@ -7,6 +7,7 @@ use second::circuits::{largest_report, worst_search};
 use second::plan::WORKING_NUMBERS;
 use second::random::Random;
 use second::report::REPORT_ROOM;
+use second::signed_texts;
 use second::table_texts::largest;
 use second::wide_texts::{self, with_repeats};
 use std::thread;
@@ -56,6 +57,16 @@ fn assert_reported(text: Vec<u8>) {
     assert_eq!(number(report), 0);
 }
 
+/// The circuit call under fault 32, the reading and the pair call.
+fn assert_called(text: Vec<u8>) {
+    let (lent, mut out) = (text.clone(), vec![0; 256]);
+    let circuit = move || library::circuit(&lent, 32, &mut out).number;
+    assert_eq!(number(circuit), 0);
+    let lent = text.clone();
+    assert_eq!(number(move || library::reading(&lent, 0, 0).number), 0);
+    assert_eq!(number(move || library::pair(&text, 32, 0, 0).number), 0);
+}
+
 /// The plan call on this text.
 fn planned(text: Vec<u8>) -> u32 {
     let mut working = vec![0; WORKING_NUMBERS];
@@ -72,7 +83,7 @@ fn calls_on_circuits_within_64_kib() {
     assert_eq!(number(move || library::pair(&text, 32, 0, 0).number), 0);
 }
 
-/// The same circuits of gates of four inputs, and the longest text.
+/// The same circuits of gates of four inputs, and the longest text without a sign.
 #[test]
 fn calls_on_wide_gates_within_64_kib() {
     let mut random = Random::new(64);
@@ -83,13 +94,24 @@ fn calls_on_wide_gates_within_64_kib() {
     let planned_draft = draft.without_silent().expect("a fault that changes rows");
     let number_of_plan = planned(planned_draft.text());
     assert!([0, 14].contains(&number_of_plan), "{number_of_plan}");
-    let text = draft.text();
-    let (lent, mut out) = (text.clone(), vec![0; 256]);
-    let circuit = move || library::circuit(&lent, 32, &mut out).number;
-    assert_eq!(number(circuit), 0);
-    let lent = text.clone();
-    assert_eq!(number(move || library::reading(&lent, 0, 0).number), 0);
-    assert_eq!(number(move || library::pair(&text, 32, 0, 0).number), 0);
+    assert_called(draft.text());
+}
+
+/// Every output subtracted: on the largest circuits, and the longest text of all.
+#[test]
+fn calls_on_signed_weights_within_64_kib() {
+    let mut random = Random::new(65);
+    let wide = with_repeats(&mut random, &largest_report());
+    for draft in [largest_report(), wide] {
+        assert_reported(signed_texts::negated(&draft).text());
+    }
+    let worst = with_repeats(&mut random, &worst_search());
+    assert_eq!(planned(signed_texts::negated(&worst).text()), 14);
+    let draft = signed_texts::largest(&mut random);
+    let planned_draft = draft.without_silent().expect("a fault that changes rows");
+    let number_of_plan = planned(planned_draft.text());
+    assert!([0, 14].contains(&number_of_plan), "{number_of_plan}");
+    assert_called(draft.text());
 }
 
 /// The largest texts, 28 of whose 32 faults are every bridge of eight inputs.

@@ -10,6 +10,7 @@ use second::devices::{self, Device};
 use second::lines::TEXT_LIMIT;
 use second::netlist;
 use second::plan::CAP_LIMIT;
+use second::signed_texts;
 use second::tables::is_table;
 use second::vectors::{cases, path, stored, Case};
 use second::walsh;
@@ -32,7 +33,7 @@ fn stored_cases_are_those_of_today() {
         file == stored(),
         "run `cargo run --release --offline --locked --bin vectors`"
     );
-    assert!(file.len() < 1_200_000, "{} bytes", file.len());
+    assert!(file.len() < 1_350_000, "{} bytes", file.len());
     let said = std::fs::read_to_string(path().with_file_name("stdout"));
     let due = format!("{} cases, 0 differ\n", CASES.len());
     assert_eq!(said.expect("what is said of them"), due);
@@ -323,8 +324,8 @@ fn has_a_bridge(text: &[u8]) -> bool {
     lines.any(|line| line.starts_with(b"bridge,"))
 }
 
-/// Those with bridges come after all others but those with wide gates, so that the
-/// others stay as they were.
+/// Those with bridges come after all others but those with wide gates and signed
+/// weights, so that the others stay as they were.
 #[test]
 fn stored_cases_with_bridges_come_last_and_are_of_every_kind() {
     let with_bridge = |case: &Case| case.call == "bridged" || has_a_bridge(&case.text);
@@ -368,7 +369,8 @@ fn has_a_wide_gate(text: &[u8]) -> bool {
     netlist.is_ok_and(|netlist| netlist.gates.iter().any(|gate| gate.read > 2))
 }
 
-/// Those with wide gates come last, and the others stay as they were.
+/// Those with wide gates come last but for those with signed weights, and the others
+/// stay as they were.
 #[test]
 fn stored_cases_with_wide_gates_come_last_and_are_of_every_kind() {
     let first = CASES.iter().position(|case| has_a_wide_gate(&case.text));
@@ -388,7 +390,8 @@ fn stored_cases_with_wide_gates_come_last_and_are_of_every_kind() {
     seen("pair", has_a_wide_gate).assert_seen(&[(0, 8), (12, 4)]);
     seen("plan", has_a_wide_gate).assert_seen(&[(0, 3), (13, 1)]);
     let mut reports = Reports::default();
-    for case in CASES[2_470..].iter().filter(|case| case.call == "report") {
+    let wide = CASES[2_470..FIRST_SIGNED].iter();
+    for case in wide.filter(|case| case.call == "report") {
         reports.note(case);
     }
     let refused = [(2, 20), (3, 15), (4, 15), (5, 1), (6, 1), (7, 1)];
@@ -397,6 +400,87 @@ fn stored_cases_with_wide_gates_come_last_and_are_of_every_kind() {
     reports.outcomes.assert_seen(&least);
     let sizes = reports.sizes;
     assert!(sizes[1..].iter().all(|&count| count >= 1), "{sizes:?}");
+}
+
+/// The first case with a weight below 0.
+const FIRST_SIGNED: usize = 2_764;
+
+/// A circuit that is accepted and has a weight below 0.
+fn has_a_negative_weight(text: &[u8]) -> bool {
+    let netlist = netlist::parse(text);
+    netlist.is_ok_and(|netlist| netlist.outputs.iter().any(|output| output.weight < 0))
+}
+
+/// Those with signed weights come last, and the others stay as they were.
+#[test]
+fn stored_cases_with_signed_weights_come_last_and_are_of_every_kind() {
+    let is_signed = |case: &Case| has_a_negative_weight(&case.text);
+    assert_eq!(CASES.iter().position(is_signed), Some(FIRST_SIGNED));
+    for text in signed_texts::EXAMPLES {
+        for call in ["circuit", "plan", "report", "reading", "pair"] {
+            let stored = |case: &&Case| case.call == call && case.text == text.as_bytes();
+            let count = CASES.iter().filter(stored).count();
+            assert!(count > 0, "{call} of {text}");
+        }
+    }
+    // The longest text.
+    let longest = |case: &&Case| case.text.len() == 1_796 && is_signed(case);
+    assert!(CASES.iter().filter(longest).count() >= 5);
+    seen("circuit", has_a_negative_weight).assert_seen(&[(0, 40), (8, 4), (12, 8)]);
+    seen("pair", has_a_negative_weight).assert_seen(&[(0, 50), (12, 8)]);
+    seen("reading", has_a_negative_weight).assert_seen(&[(0, 70)]);
+    seen("plan", has_a_negative_weight).assert_seen(&[(0, 5), (13, 3), (14, 0)]);
+    let mut reports = Reports::default();
+    let signed = CASES[FIRST_SIGNED..].iter();
+    for case in signed.clone().filter(|case| case.call == "report") {
+        reports.note(case);
+    }
+    let refused = [(2, 60), (3, 25), (4, 1), (5, 10), (6, 1), (7, 1)];
+    let planned = [(0, 60), (13, 10), (14, 2)];
+    let least = [&refused[..], &planned].concat();
+    reports.outcomes.assert_seen(&least);
+    let sizes = reports.sizes;
+    assert!(sizes[1..].iter().all(|&count| count >= 1), "{sizes:?}");
+    assert!(reports.negative >= 50, "{} negative", reports.negative);
+    // Sums below, at and above 0, of readings and of what a fault changes; the
+    // third case is the constrained one.
+    let (mut signs, mut kinds) = ([0; 3], [0; 4]);
+    for case in signed.filter(|case| case.number == 0 && !case.list.is_empty()) {
+        for sum in &case.list {
+            signs[(sum.signum() + 1) as usize] += 1;
+        }
+        if case.call == "reading" {
+            let kind = case.due["answer,0,0,".len()] - b'0';
+            kinds[usize::from(kind)] += 1;
+        }
+    }
+    assert!(signs.iter().all(|&count| count >= 50), "{signs:?}");
+    assert!(
+        kinds[1] >= 2 && kinds[2] >= 40 && kinds[3] >= 40,
+        "{kinds:?}"
+    );
+}
+
+/// Every weight there is, as the one output's.
+#[test]
+fn stored_circuits_have_every_weight() {
+    for weight in signed_texts::every_weight() {
+        let text = format!("circuit,1,0,1,1,1\noutput,1,{weight}\nfault,1,1\n");
+        let stored = |call: &str| {
+            let of_text = |case: &&Case| case.call == call && case.text == text.as_bytes();
+            let case = CASES.iter().find(of_text).expect("a circuit of one output");
+            String::from_utf8_lossy(&case.due).into_owned()
+        };
+        let (sum, twice) = (weight, 2 * weight);
+        assert_eq!(
+            stored("circuit"),
+            format!("answer,0,0\nleft,{sum},{}\n", -sum)
+        );
+        let report = format!("plan,1\nlabel,0,{sum}\nfault,1,0,{twice}\n");
+        assert_eq!(stored("report"), report);
+        let kind = if weight == 1 { 1 } else { 2 };
+        assert_eq!(stored("reading"), format!("answer,0,0,{kind},0\n"));
+    }
 }
 
 /// All 170: every kind and width over as many inputs, each a circuit of its own.

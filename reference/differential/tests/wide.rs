@@ -3,7 +3,7 @@
 //! follows from note 2 without it. The program and the stack have their own files,
 //! and so have readings of every kind and the plans of small circuits.
 
-use differential::both::{with_every_byte, Both};
+use differential::both::Both;
 use differential::calls::{
     self, library_circuit, library_circuit_rows, library_plan, library_report, of_labels, refused,
 };
@@ -340,29 +340,10 @@ fn circuits_of_every_size() {
     assert!(widths[1..].iter().all(|&count| count > 500), "{widths:?}");
 }
 
-/// 1,792 bytes: no circuit has more.
+/// 1,792 bytes: no circuit without a sign has more.
 #[test]
 fn the_longest_texts() {
-    let mut both = Both::new(SEED + 11);
-    let mut changing = 0;
-    for round in 0..20 {
-        let draft = largest(&mut both.random);
-        let text = draft.text();
-        assert_eq!(text.len(), 1_792);
-        changing += both.every_fault(&draft);
-        both.plan_and_report(&text);
-        let planned = draft.without_silent().expect("a fault that changes rows");
-        // Without a plan the second implementation tries every set.
-        both.plan_and_report(&planned.with_cap(1 + round % 2).text());
-        let found = calls::reading(&mut both.random, &text, round as u32, 0);
-        assert_eq!(found.number, 0);
-        for fault in 1..=32 {
-            let found = calls::pair(&mut both.random, &text, fault, 0, 0);
-            assert_eq!(found.number, 0);
-        }
-    }
-    both.outcomes.assert_seen(&[(0, 20 * 33 + 20), (13, 20)]);
-    assert!(changing > 300, "faults that change rows: {changing}");
+    Both::new(SEED + 11).longest_texts(largest, 1_792);
 }
 
 #[test]
@@ -389,17 +370,7 @@ fn plans_of_drawn_circuits() {
 
 #[test]
 fn plans_without_silent_faults() {
-    let mut both = Both::new(SEED + 14);
-    for round in 0..600 {
-        // Without a plan the second implementation tries every set.
-        let draft = draw_changing(&mut both.random, 1 + round % 6);
-        both.plan_and_report(&draft.text());
-        if round % 4 == 0 {
-            both.caps_and_orders(&draft);
-        }
-    }
-    both.outcomes.assert_seen(&[(0, 1000), (14, 150)]);
-    both.assert_sizes([500, 200, 40, 10]);
+    Both::new(SEED + 14).plans_without_silent_faults(draw_changing);
 }
 
 #[test]
@@ -763,10 +734,9 @@ fn a_refused_gate_leaves_what_is_lent() {
 fn damaged_texts() {
     let mut both = Both::new(SEED + 26);
     let damages: Vec<&Damage> = GATE_DAMAGES.iter().chain(&DAMAGES).collect();
-    let mut damaged = vec![0; damages.len()];
-    for round in 0..600 {
+    both.damaged_circuits(&damages, 600, 80, |random, round| {
         let inputs = 1 + round % 8;
-        let drawn = Sizes::draw(&mut both.random);
+        let drawn = Sizes::draw(random);
         let sizes = match round % 4 {
             // Few faults, so that damage often hits gates.
             0 | 1 => Sizes {
@@ -778,18 +748,8 @@ fn damaged_texts() {
             2 => Sizes { inputs, ..drawn },
             _ => Sizes::LARGEST,
         };
-        let draft = draw(&mut both.random, sizes);
-        for (damage, refused) in damages.iter().zip(&mut damaged) {
-            let text = (damage.apply)(&mut both.random, &draft);
-            let fault = both.random.below(draft.sizes.faults + 2) as u32;
-            let room = both.random.room(1 << draft.sizes.inputs);
-            let (number, _) = both.circuit(&text, fault, room);
-            *refused += usize::from((2..=7).contains(&number));
-            if round % 8 < 2 {
-                both.every_call(&text, fault, room);
-            }
-        }
-    }
+        draw(random, sizes)
+    });
     both.outcomes.assert_seen(&[
         (0, 1500),
         (2, 6000),
@@ -802,9 +762,6 @@ fn damaged_texts() {
         (12, 60),
         (13, 100),
     ]);
-    for (damage, refused) in damages.iter().zip(damaged) {
-        assert!(refused > 80, "{}: refused {refused} times", damage.name);
-    }
 }
 
 #[test]
@@ -845,9 +802,7 @@ fn every_prefix_and_every_byte() {
         both.every_prefix(&text);
     }
     for text in [AND_OF_THREE, MIXED] {
-        with_every_byte(text.as_bytes(), |text| {
-            both.circuit(text, 1 + (text.len() % 2) as u32, 256);
-        });
+        both.every_byte(text.as_bytes());
     }
     both.outcomes.assert_seen(&[
         (0, 200),

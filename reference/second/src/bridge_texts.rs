@@ -335,6 +335,7 @@ pub const BRIDGE_DAMAGES: [Damage; 8] = [
 #[cfg(test)]
 mod tests {
     use super::*;
+    use crate::circuits::try_damages;
     use crate::devices::{self, Device};
     use crate::plan::{plan, CAP_LIMIT, WORKING_NUMBERS};
     use crate::walsh::{number_of, refuse};
@@ -443,27 +444,16 @@ mod tests {
     #[test]
     fn damages_change_the_text() {
         let mut random = Random::new(34);
-        let mut refused = [0; 20];
-        for damage in &BRIDGE_DAMAGES {
-            let (mut changed, mut bad) = (0, 0);
-            for round in 0..160 {
-                let inputs = 1 + round % 8;
-                let draft = match round % 2 {
-                    0 => draw_table(&mut random, inputs),
-                    _ => {
-                        let drawn = Sizes::draw(&mut random);
-                        draw_circuit(&mut random, Sizes { inputs, ..drawn })
-                    }
-                };
-                let text = (damage.apply)(&mut random, &draft);
-                let number = number_of(&devices::parse(&text)) as usize;
-                changed += usize::from(text != draft.text());
-                bad += usize::from(number != 0);
-                refused[number] += 1;
+        let refused = try_damages(&mut random, &BRIDGE_DAMAGES, [100, 80], |random, round| {
+            let inputs = 1 + round % 8;
+            match round % 2 {
+                0 => draw_table(random, inputs),
+                _ => {
+                    let drawn = Sizes::draw(random);
+                    draw_circuit(random, Sizes { inputs, ..drawn })
+                }
             }
-            assert!(changed > 100, "{}: {changed} of 160", damage.name);
-            assert!(bad > 80, "{}: {bad} of 160 refused", damage.name);
-        }
+        });
         for number in [2, 3, 19] {
             assert!(refused[number] > 100, "{refused:?}");
         }

@@ -96,6 +96,17 @@ impl Sizes {
         }
     }
 
+    /// Of few inputs, gates, so many at least, and faults.
+    pub fn small(random: &mut Random, gates: usize) -> Sizes {
+        let drawn = Sizes::draw(random);
+        Sizes {
+            inputs: 1 + random.below(4),
+            gates: gates + random.below(7),
+            faults: 1 + random.below(3),
+            ..drawn
+        }
+    }
+
     /// In the order of the first line.
     fn numbers(&self) -> [usize; 5] {
         [self.inputs, self.gates, self.outputs, self.faults, self.cap]
@@ -161,6 +172,11 @@ impl Draft {
         &self.lines[1..=self.sizes.gates]
     }
 
+    /// The lines of the outputs.
+    pub fn outputs(&self) -> &[Vec<String>] {
+        &self.lines[1 + self.sizes.gates..][..self.sizes.outputs]
+    }
+
     /// The lines of the faults.
     pub fn faults(&self) -> &[Vec<String>] {
         &self.lines[self.lines.len() - self.sizes.faults..]
@@ -178,6 +194,19 @@ impl Draft {
         lines[0] = sizes.head(&lines[0][0]);
         lines.extend_from_slice(faults);
         Draft { sizes, lines }
+    }
+
+    /// The same circuit with these lines of outputs.
+    pub fn with_outputs(&self, outputs: &[Vec<String>]) -> Draft {
+        let sizes = Sizes {
+            outputs: outputs.len(),
+            ..self.sizes
+        };
+        let head = vec![sizes.head("circuit")];
+        Draft {
+            sizes,
+            lines: [&head, self.gates(), outputs, self.faults()].concat(),
+        }
     }
 
     pub fn with_cap(&self, cap: usize) -> Draft {
@@ -776,6 +805,32 @@ pub const DAMAGES: [Damage; 16] = [
         },
     },
 ];
+
+/// Each damage on 160 drawn texts, of which it must change so many and have so many
+/// refused; gives how often each number came.
+#[cfg(test)]
+pub(crate) fn try_damages(
+    random: &mut Random,
+    damages: &[Damage],
+    least: [usize; 2],
+    draw: impl Fn(&mut Random, usize) -> Draft,
+) -> [usize; 20] {
+    let mut refused = [0; 20];
+    for damage in damages {
+        let (mut changed, mut bad) = (0, 0);
+        for round in 0..160 {
+            let draft = draw(random, round);
+            let text = (damage.apply)(random, &draft);
+            let number = crate::walsh::number_of(&devices::parse(&text)) as usize;
+            changed += usize::from(text != draft.text());
+            bad += usize::from(number != 0);
+            refused[number] += 1;
+        }
+        assert!(changed > least[0], "{}: {changed} changed", damage.name);
+        assert!(bad >= least[1], "{}: {bad} refused", damage.name);
+    }
+    refused
+}
 
 #[cfg(test)]
 mod tests {

@@ -11,6 +11,7 @@ pub mod plan;
 pub mod random;
 pub mod reading;
 pub mod report;
+pub mod signed_texts;
 pub mod table_texts;
 pub mod tables;
 pub mod vectors;

@@ -1,6 +1,6 @@
 //! What both texts are made of: lines one after the other, their fields, the
 //! first line's numbers and the lines of the faults. Written from the sentences
-//! of the paper and of note 8, and nothing else.
+//! of the paper and of notes 4 and 8, and nothing else.
 
 use crate::walsh::{refuse, test_argument, Refusal};
 use std::ops::RangeInclusive;
@@ -61,6 +61,17 @@ fn number_in(field: &[u8]) -> Option<usize> {
     })
 }
 
+/// A number, or "written with `-`" its negative: "`-0` is a bad number".
+fn signed_number_in(field: &[u8]) -> Option<i32> {
+    match field.strip_prefix(b"-") {
+        None => number_in(field).map(|number| number as i32),
+        Some(size) => match number_in(size)? {
+            0 => None,
+            size => Some(-(size as i32)),
+        },
+    }
+}
+
 fn is_comma(byte: &u8) -> bool {
     *byte == b','
 }
@@ -97,6 +108,11 @@ impl Line<'_> {
 
     pub(crate) fn number(&mut self) -> Result<usize, Refusal> {
         self.read(number_in)
+    }
+
+    /// A number that may have a sign.
+    pub(crate) fn signed_number(&mut self) -> Result<i32, Refusal> {
+        self.read(signed_number_in)
     }
 
     pub(crate) fn is_over(&self) -> bool {
@@ -246,6 +262,49 @@ pub fn field(text: &[u8], number: usize) -> (usize, usize) {
 #[cfg(test)]
 mod tests {
     use super::*;
+
+    #[test]
+    fn numbers_with_and_without_a_sign() {
+        for number in 0..=9_999 {
+            let [plain, negative] = [number.to_string(), format!("-{number}")];
+            assert_eq!(number_in(plain.as_bytes()), Some(number));
+            assert_eq!(number_in(negative.as_bytes()), None, "{negative}");
+            let size = number as i32;
+            assert_eq!(signed_number_in(plain.as_bytes()), Some(size));
+            let due = (size != 0).then_some(-size);
+            assert_eq!(signed_number_in(negative.as_bytes()), due, "{negative}");
+        }
+        for bad in [
+            "",
+            "-",
+            "--",
+            "--5",
+            "-+5",
+            "+5",
+            "+-5",
+            "00",
+            "-00",
+            "05",
+            "-05",
+            "10000",
+            "-10000",
+            " 5",
+            "- 5",
+            " -5",
+            "5-",
+            "-5-",
+            "5-1",
+            "-5 ",
+            "-5\r",
+            "-5.",
+            "-x",
+            "\u{2212}5",
+            "-0-5",
+        ] {
+            assert_eq!(number_in(bad.as_bytes()), None, "{bad:?}");
+            assert_eq!(signed_number_in(bad.as_bytes()), None, "{bad:?}");
+        }
+    }
 
     #[test]
     fn fields_of_a_piece() {

@@ -1,12 +1,16 @@
 //! The circuit text and its rows, written from the sentences of the paper and of
-//! notes 2 and 8, and nothing else.
+//! notes 2, 4 and 8, and nothing else.
 
 use crate::lines::{fault_of, Fault, Line, Reader, LINE_LIMIT};
 use crate::walsh::Refusal;
 
 /// A gate reads no more lines: "gates of up to four inputs".
 pub const WIDTH_LIMIT: usize = 4;
-/// No coefficient of a circuit is beyond it: 256 rows, 4 outputs of weight 15.
+/// "-15 to 15 without 0".
+pub const WEIGHT_LIMIT: i32 = 15;
+/// "Row values then run from -60 to 60": 4 outputs of the largest weight.
+pub const CIRCUIT_ROW_LIMIT: i32 = 60;
+/// No coefficient of a circuit is beyond it: 256 rows.
 pub const CIRCUIT_LIMIT: i32 = 15_360;
 
 #[derive(Clone, Copy, Debug, PartialEq, Eq)]
@@ -145,15 +149,15 @@ impl Line<'_> {
         Ok(Gate { kind, read, lines })
     }
 
-    /// `output,LINE,WEIGHT`, in a circuit of `lines` lines.
+    /// `output,LINE,WEIGHT`, in a circuit of `lines` lines. The weight alone may
+    /// have a sign: "Weight 0 gives 3".
     fn output(mut self, lines: usize) -> Result<Output, Refusal> {
         self.word("output")?;
-        let (line, weight) = (self.number()?, self.number()?);
+        let (line, weight) = (self.number()?, self.signed_number()?);
         self.end()?;
         self.test(3, (1..=LINE_LIMIT).contains(&line))?;
-        self.test(3, (1..=15).contains(&weight))?;
+        self.test(3, (1..=WEIGHT_LIMIT).contains(&weight.abs()))?;
         self.test(5, line <= lines)?;
-        let weight = weight as i32;
         Ok(Output { line, weight })
     }
 }
@@ -223,6 +227,7 @@ mod tests {
     use crate::circuits::{with_line, Sizes, LISTING};
     use crate::lines::TEXT_LIMIT;
     use crate::random::Random;
+    use crate::signed_texts::{BAD_WEIGHTS, WEIGHTS_OUT_OF_RANGE};
     use crate::table_texts::SMALL;
     use crate::walsh::{bridged_rows, number_and_place, refuse};
     use crate::wide_texts::{one_gate, rows_of_gate, TRUTH_VALUES};
@@ -499,6 +504,96 @@ mod tests {
                 assert_eq!(refused(place, &format!("gate,xor,1,2,{read}")), due);
                 assert_eq!(refused(place, &format!("gate,or,1,1,2,{read}")), due);
             }
+        }
+    }
+
+    #[test]
+    fn every_weight_and_none_beyond() {
+        for weight in -20..=20 {
+            let in_range = (1..=15).contains(&i32::abs(weight));
+            let due = if in_range { (0, 0) } else { (3, 6) };
+            assert_eq!(refused(6, &format!("output,7,{weight}")), due, "{weight}");
+            // Of a line that is not there.
+            let due = if in_range { (5, 6) } else { (3, 6) };
+            assert_eq!(refused(6, &format!("output,8,{weight}")), due, "{weight}");
+            assert_eq!(refused(6, &format!("output,57,{weight}")), (3, 6));
+            for bad in ["", "x", "07", "-7", "10000"] {
+                let line = format!("output,{bad},{weight}");
+                assert_eq!(refused(6, &line), (2, 6), "{line}");
+            }
+        }
+        for (weights, number) in [(&BAD_WEIGHTS[..], 2), (&WEIGHTS_OUT_OF_RANGE, 3)] {
+            for weight in weights {
+                for line in [7, 8, 57, 0] {
+                    let line = format!("output,{line},{weight}");
+                    assert_eq!(refused(6, &line), (number, 6), "{line:?}");
+                }
+                assert_eq!(refused(6, &format!("output,-7,{weight}")), (2, 6));
+                assert_eq!(refused(6, &format!("output,7,{weight},1")), (2, 6));
+            }
+        }
+        assert_eq!(refused(6, "output,7,--1"), (2, 6));
+        assert_eq!(refused(6, "output,7,-1,"), (2, 6));
+        assert_eq!(refused(6, "output,7,-1,-1"), (2, 6));
+        assert_eq!(refused(6, "output,-1"), (2, 6));
+        assert_eq!(refused(6, "output,-1,7"), (2, 6));
+    }
+
+    #[test]
+    fn only_a_weight_may_have_a_sign() {
+        let text = "circuit,3,2,2,3,1\ngate,not,1,0\ngate,nor,1,2,3,4\n\
+            output,5,7\noutput,4,-2\nfault,1,0,2,1,5,1\nbridge,1,2\nfault,3,1\n";
+        assert!(parse(text.as_bytes()).is_ok());
+        let mut minuses = 0;
+        for (place, line) in (1..).zip(text.lines()) {
+            let fields: Vec<&str> = line.split(',').collect();
+            for (at, field) in fields.iter().enumerate() {
+                if field.parse::<i32>().is_err() {
+                    continue;
+                }
+                let mut fields = fields.clone();
+                let minus = format!("-{field}");
+                fields[at] = &minus;
+                let due = match (fields[0], at, *field) {
+                    ("output", 2, "7") => (0, 0),
+                    _ => (2, place),
+                };
+                let found = parse(&with_line(text, place, &fields.join(",")));
+                assert_eq!(number_and_place(&found), due, "{fields:?}");
+                minuses += 1;
+            }
+        }
+        assert_eq!(minuses, 5 + 2 + 4 + 4 + 6 + 2 + 2);
+    }
+
+    #[test]
+    fn rows_of_signed_weights() {
+        // x1, x2 and x3 count 1, -2 and -4, and x1x2 cancels x2.
+        let text = "circuit,3,1,4,3,1\ngate,and,1,2\n\
+            output,1,1\noutput,2,-2\noutput,3,-4\noutput,4,2\n\
+            fault,4,0\nfault,3,1\nbridge,1,2\n";
+        let netlist = parse(text.as_bytes()).expect("a good text");
+        assert_eq!(netlist.rows(0), Ok(vec![0, 1, -2, 1, -4, -3, -6, -3]));
+        assert_eq!(netlist.rows(1), Ok(vec![0, 1, -2, -1, -4, -3, -6, -5]));
+        assert_eq!(netlist.rows(2), Ok(vec![-4, -3, -6, -3, -4, -3, -6, -3]));
+        assert_eq!(netlist.rows(3), Ok(vec![0, 0, 0, 1, -4, -4, -4, -3]));
+        // One line with a weight and its negative, and both ends of the range.
+        for (weights, row) in [
+            ([15, 15, 15, 15], 60),
+            ([-15, -15, -15, -15], -60),
+            ([15, -15, 15, -15], 0),
+            ([9, -4, -4, -1], 0),
+            ([-15, 1, 1, 1], -12),
+            ([1, -1, 1, 14], 15),
+        ] {
+            let outputs = weights
+                .map(|weight| format!("output,1,{weight}\n"))
+                .concat();
+            let text = format!("circuit,1,0,4,2,1\n{outputs}fault,1,0\nfault,1,1\n");
+            let netlist = parse(text.as_bytes()).expect("a good text");
+            assert_eq!(netlist.rows(0), Ok(vec![0, row]), "{weights:?}");
+            assert_eq!(netlist.rows(1), Ok(vec![0; 2]), "{weights:?}");
+            assert_eq!(netlist.rows(2), Ok(vec![row; 2]), "{weights:?}");
         }
     }
 

@@ -1,6 +1,7 @@
-//! The reading and the pair call, written from the paper's sentences and
-//! nothing else, in whole numbers only: the sum over the rows that agree, their
-//! count, and the bits of the binary64 that is the one divided by the other.
+//! The reading and the pair call, written from the sentences of the paper and of
+//! note 4, and nothing else, in whole numbers only: the sum over the rows that
+//! agree, their count, and the bits of the binary64 that is the one divided by the
+//! other. "Readings may be negative"; none is minus zero.
 
 use crate::netlist::{self, Netlist};
 use crate::walsh::{test_argument, Refusal};
@@ -92,9 +93,9 @@ fn measure(text: &[u8], mask: u32, values: u32) -> Result<Reading, Refusal> {
         let fixed = mask.count_ones();
         return Ok(Reading::Constrained { bits, fixed });
     }
-    // "M above 1 or a weight above 1"
+    // "M above 1", or "Any weight other than 1"
     let outputs = &netlist.outputs;
-    if outputs.len() > 1 || outputs.iter().any(|output| output.weight > 1) {
+    if outputs.len() > 1 || outputs.iter().any(|output| output.weight != 1) {
         return Ok(Reading::WeightedSum { bits });
     }
     Ok(Reading::PlainSyndrome { bits })
@@ -121,6 +122,7 @@ mod tests {
     use crate::circuits::{with_line, HALF_AND_A_ROW, LISTING, STUCK_INPUTS, TWO_OUTPUTS};
     use crate::lines::TEXT_LIMIT;
     use crate::netlist::CIRCUIT_LIMIT;
+    use crate::signed_texts::{every_weight, SUBTRACTED_LISTING};
     use crate::table_texts::{ANOTHER_MARK, SMALL};
     use crate::walsh::refuse;
 
@@ -212,6 +214,48 @@ mod tests {
         ] {
             let due = Reading::Constrained { bits, fixed };
             assert_eq!(reading(text, mask, values), due, "mask {mask}");
+        }
+    }
+
+    #[test]
+    fn cases_of_signed_weights() {
+        let text = SUBTRACTED_LISTING.as_bytes();
+        let bits = 0xbfe0_0000_0000_0000;
+        assert_eq!(reading(text, 0, 0), Reading::WeightedSum { bits });
+        // Rows 0, 0, 0, -1, -1, -1, 0, -1; a sum of 0 has no sign.
+        for (mask, values, fixed, sum, count) in [
+            (1, 0, 1, -1, 4),
+            (1, 1, 1, -3, 4),
+            (6, 4, 2, -2, 2),
+            (7, 3, 3, -1, 1),
+            (7, 6, 3, 0, 1),
+        ] {
+            let bits = quotient(sum, count);
+            let due = Reading::Constrained { bits, fixed };
+            assert_eq!(reading(text, mask, values), due, "mask {mask}");
+        }
+        for weight in every_weight() {
+            let one = format!("circuit,1,0,1,1,1\noutput,1,{weight}\nfault,1,0\n");
+            let two = format!("circuit,1,0,2,1,1\noutput,1,{weight}\noutput,1,1\nfault,1,0\n");
+            let [bits, with_1] = [weight, weight + 1].map(|sum| quotient(sum.into(), 2));
+            let due = match weight {
+                1 => Reading::PlainSyndrome { bits },
+                _ => Reading::WeightedSum { bits },
+            };
+            assert_eq!(reading(one.as_bytes(), 0, 0), due, "{weight}");
+            let due = Reading::WeightedSum { bits: with_1 };
+            assert_eq!(reading(two.as_bytes(), 0, 0), due, "{weight} and 1");
+            for (values, sum) in [(0, 0), (1, weight)] {
+                let bits = quotient(sum.into(), 1);
+                let due = Reading::Constrained { bits, fixed: 1 };
+                assert_eq!(reading(one.as_bytes(), 1, values), due, "{weight}");
+            }
+            let due = Pair {
+                sound: bits,
+                faulty: 0,
+                difference: bits,
+            };
+            assert_eq!(pair(one.as_bytes(), 1, 0, 0), Ok(due), "{weight}");
         }
     }
 

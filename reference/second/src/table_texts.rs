@@ -346,7 +346,8 @@ pub const MARK_DAMAGES: [Damage; 5] = [
 #[cfg(test)]
 mod tests {
     use super::*;
-    use crate::devices::{self, circuit};
+    use crate::circuits::try_damages;
+    use crate::devices::circuit;
     use crate::plan::{plan, WORKING_NUMBERS};
     use crate::tables::parse;
     use crate::walsh::{number_of, refuse};
@@ -451,17 +452,9 @@ mod tests {
     #[test]
     fn damages_change_the_text() {
         let mut random = Random::new(26);
-        let mut refused = [0; 16];
-        for damage in &MARK_DAMAGES {
-            let mut changed = 0;
-            for round in 0..160 {
-                let draft = draw(&mut random, 1 + round % 8);
-                let text = (damage.apply)(&mut random, &draft);
-                changed += usize::from(text != draft.text());
-                refused[number_of(&devices::parse(&text)) as usize] += 1;
-            }
-            assert!(changed > 100, "{}: {changed} of 160", damage.name);
-        }
+        let refused = try_damages(&mut random, &MARK_DAMAGES, [100, 0], |random, round| {
+            draw(random, 1 + round % 8)
+        });
         assert!(refused[2] > 100 && refused[15] > 100, "{refused:?}");
     }
 }

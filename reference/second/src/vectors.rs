@@ -11,6 +11,7 @@
 mod bridges;
 mod examples;
 mod lists;
+mod signed;
 mod tables;
 mod texts;
 mod uses;
@@ -56,9 +57,9 @@ pub fn stored() -> Vec<u8> {
     cases().iter().flat_map(Case::bytes).collect()
 }
 
-/// All cases: the paper's examples first, those on tables, with bridges and with
-/// wide gates last, one after the other, so that earlier cases stay where they
-/// were.
+/// All cases: the paper's examples first, those on tables, with bridges, with wide
+/// gates and with signed weights last, one after the other, so that earlier cases
+/// stay where they were.
 pub fn cases() -> Vec<Case> {
     let texts = texts::texts(&mut Random::new(SEED));
     let mut random = Random::new(SEED + 1);
@@ -69,6 +70,7 @@ pub fn cases() -> Vec<Case> {
     cases.extend(tables::cases(&mut Random::new(SEED + 2)));
     cases.extend(bridges::cases(&mut Random::new(SEED + 3)));
     cases.extend(wide::cases(&mut Random::new(SEED + 4)));
+    cases.extend(signed::cases(&mut Random::new(SEED + 5)));
     cases
 }
 

@@ -1,6 +1,6 @@
 //! Circuits with gates of three and four inputs: those of note 2, drawn ones in
 //! which gates of every width are mixed, the same circuits written in other ways,
-//! the longest text, and ways to damage lines of gates.
+//! the longest text without a sign, and ways to damage lines of gates.
 
 use crate::circuits::{
     fault_fields, fields, gate_fields, line_below, Damage, Draft, Sizes, Sketch,
@@ -205,7 +205,7 @@ pub fn opened(draft: &Draft, lines: &[usize]) -> Option<Draft> {
     (inputs <= Sizes::LARGEST.inputs).then(|| opened.with_faults(&faults, 1))
 }
 
-/// The longest text that is accepted: every word and number is as long as it can
+/// The longest text of weights above 0: every word and number is as long as it can
 /// be. The first two gates of eight inputs can read no line of two digits.
 pub fn largest(random: &mut Random) -> Draft {
     longest_of(random, WIDTH_LIMIT)
@@ -346,6 +346,7 @@ pub const GATE_DAMAGES: [Damage; 9] = [
 mod tests {
     use super::*;
     use crate::bridge_texts::with_bridges;
+    use crate::circuits::try_damages;
     use crate::devices::circuit;
     use crate::netlist::{parse, Gate, Kind, Netlist};
     use crate::plan::{plan, WORKING_NUMBERS};
@@ -529,21 +530,10 @@ mod tests {
     #[test]
     fn damages_change_the_text() {
         let mut random = Random::new(66);
-        let mut refused = [0; 8];
-        for damage in &GATE_DAMAGES {
-            let (mut changed, mut bad) = (0, 0);
-            for _ in 0..160 {
-                let sizes = Sizes::draw(&mut random);
-                let draft = draw(&mut random, sizes);
-                let text = (damage.apply)(&mut random, &draft);
-                let number = number_of(&parse(&text)) as usize;
-                changed += usize::from(text != draft.text());
-                bad += usize::from(number != 0);
-                refused[number] += 1;
-            }
-            assert!(changed > 120, "{}: {changed} of 160", damage.name);
-            assert!(bad > 60, "{}: {bad} of 160 refused", damage.name);
-        }
+        let refused = try_damages(&mut random, &GATE_DAMAGES, [120, 60], |random, _| {
+            let sizes = Sizes::draw(random);
+            draw(random, sizes)
+        });
         for number in [0, 2, 3, 4] {
             assert!(refused[number] > 100, "{refused:?}");
         }

@@ -2,6 +2,7 @@
 
 use super::examples::every_call;
 use super::Case;
+use crate::bridge_texts::with_bridges;
 use crate::circuits::{
     with_line, Draft, Sizes, EXAMPLES, HALF_AND_A_ROW, LISTING, SILENT_FAULT, TWO_OUTPUTS,
 };
@@ -49,6 +50,27 @@ fn drawn_text(random: &mut Random, inputs: usize) -> Vec<u8> {
         cap: 1 + random.below(4),
     };
     Draft::draw(random, sizes).text()
+}
+
+/// The texts reported, refused by these numbers and planned, and every fault and
+/// fixture of so many small circuits with bridges.
+pub fn every_use(
+    random: &mut Random,
+    texts: &[Vec<u8>],
+    numbers: &[u32],
+    circuits: usize,
+    small: fn(&mut Random) -> Draft,
+) -> Vec<Case> {
+    let mut cases = reports(texts);
+    for _ in 0..circuits {
+        let drawn = small(random);
+        let text = with_bridges(random, &drawn).text();
+        cases.extend(faults(random, &text));
+        cases.extend(fixtures(random, &text));
+    }
+    cases.extend(refused(texts, numbers));
+    cases.extend(plans(texts));
+    cases
 }
 
 /// Every fault's number from 0 to Q + 1, and one far off; buffers short, exact

@@ -2,7 +2,7 @@
 
 use super::examples::every_call;
 use super::texts::damaged;
-use super::uses::{faults, fixtures, plans, refused, reports};
+use super::uses::every_use;
 use super::Case;
 use crate::bridge_texts::with_bridges;
 use crate::circuits::{with_line, Damage, Draft, Sizes, DAMAGES};
@@ -56,28 +56,13 @@ fn repeated_lines(random: &mut Random) -> Vec<Case> {
 
 /// A small circuit.
 fn small(random: &mut Random) -> Draft {
-    let drawn = Sizes::draw(random);
-    let sizes = Sizes {
-        inputs: 1 + random.below(4),
-        gates: 1 + random.below(7),
-        faults: 1 + random.below(3),
-        ..drawn
-    };
+    let sizes = Sizes::small(random, 1);
     draw(random, sizes)
 }
 
 fn of_texts(random: &mut Random) -> Vec<Case> {
     let texts = texts(random);
-    let mut cases = reports(&texts);
-    for _ in 0..3 {
-        let drawn = small(random);
-        let text = with_bridges(random, &drawn).text();
-        cases.extend(faults(random, &text));
-        cases.extend(fixtures(random, &text));
-    }
-    cases.extend(refused(&texts, &[2, 3, 4]));
-    cases.extend(plans(&texts));
-    cases
+    every_use(random, &texts, &[2, 3, 4], 3, small)
 }
 
 /// Every text with a stored report.
