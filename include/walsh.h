@@ -9,8 +9,8 @@
  * - A pointer must be aligned and valid for its length. With length 0 it may be a null pointer.
  * - What a call writes to (`out`, `work`) must overlap nothing else that the call is lent.
  * - Any values may be passed: what cannot be taken is refused by a number and a place (enum walsh_number).
- * - A refusal writes nothing, with two exceptions: walsh_report writes its refusal as the report, and WALSH_SILENT_FAULT and
- *   WALSH_NO_SET_WITHIN_CAP may have used the working numbers.
+ * - A refusal writes nothing, with two exceptions: walsh_report writes its refusal as the report, and WALSH_SILENT_FAULT,
+ *   WALSH_HIDDEN_FAULT and WALSH_NO_SET_WITHIN_CAP may have used the working numbers.
  * - `out` may be longer than the result: what stands after the result stays as it was.
  * - No call keeps a pointer, allocates memory, reads or writes a file or a stream, or needs more than 64 KiB of stack. There is no state between
  *   calls, so calls may run at the same time wherever none writes what another is lent. walsh_plan and walsh_report search, each anew;
@@ -64,9 +64,10 @@ enum walsh_number {
     WALSH_ENTRY_OUT_OF_RANGE = 10,   /* place: the first index, from 0, of a row or coefficient out of range */
     WALSH_BAD_SUM = 11,              /* place: the first index, from 0, where a sum does not divide or gives a row out of range */
     WALSH_ARGUMENT_OUT_OF_RANGE = 12, /* each call's comment says which */
-    WALSH_SILENT_FAULT = 13,         /* place: the first fault, from 1, that changes no row */
+    WALSH_SILENT_FAULT = 13,         /* place: the first fault, from 1, that changes no output on any row */
     WALSH_NO_SET_WITHIN_CAP = 14,    /* no set of labels within the cap shows every fault */
     WALSH_BAD_MARK = 15,             /* place: the line, 2; a mark of a table is not `0`, `1` or `-`; nothing is written, as with 1 to 7 */
+    WALSH_HIDDEN_FAULT = 16,         /* place: the first fault, from 1, that changes outputs and no row's weighted sum; given where no fault is silent */
     WALSH_BAD_BRIDGE = 19            /* place: the line; of a bridge an input is above N, or the two do not rise; nothing is written, as with 1 to 7 */
 };
 
@@ -96,7 +97,7 @@ struct walsh_sum {
 };
 
 /* What walsh_plan gives back: the labels to count, in their order,
-   or a refusal with its place, a line of the text or a fault. */
+   or a refusal with its place, a line of the text or, of 13 and 16, a fault. */
 struct walsh_signature {
     uint32_t number;
     size_t place;
@@ -145,8 +146,8 @@ struct walsh_part {
    wherever they are read. The numbers of the faults count both. */
 
 /* Plans the circuit or table: the first shortest set of labels, within the text's cap, that shows every fault. What the first
-   WALSH_WORKING_NUMBERS of `work` hold after a plan, 13 or 14 may be anything; later ones stay.
-   Refusals: 1 to 7, 15 and 19, 8 (fewer working numbers), 13, 14. */
+   WALSH_WORKING_NUMBERS of `work` hold after a plan, 13, 16 or 14 may be anything; later ones stay.
+   Refusals: 1 to 7, 15 and 19, 8 (fewer working numbers), 13, 16, 14. */
 struct walsh_signature walsh_plan(const uint8_t *text, size_t text_length, uint32_t *work, size_t work_length);
 
 /* Writes the report on the text to `out`: the plan with its coefficients, a table's doubled, or the line `refused,NUMBER,PLACE`. `work` is as

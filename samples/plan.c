@@ -28,6 +28,7 @@ static const char *reason(uint32_t number)
     case WALSH_LINES_NOT_RISING: return "the lines of a fault do not rise: line";
     case WALSH_BYTES_AFTER_TEXT: return "bytes after the last line: line";
     case WALSH_SILENT_FAULT: return "no fixture can see this fault:";
+    case WALSH_HIDDEN_FAULT: return "the weights hide this fault:";
     case WALSH_NO_SET_WITHIN_CAP: return "no set of labels within the cap shows every fault";
     case WALSH_BAD_MARK: return "a mark other than 0, 1 and -: line";
     case WALSH_BAD_BRIDGE: return "a bridge is not of two rising inputs: line";

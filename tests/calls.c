@@ -79,6 +79,11 @@ static struct walsh_part (*const field)(const uint8_t *, size_t, size_t) = walsh
 /* An input of this weight, stuck at 0. */
 #define WEIGHED(WEIGHT) "circuit,1,0,1,1,1\noutput,1," WEIGHT "\nfault,1,0\n"
 
+/* x1 and its complement, which change places on row 1 when x1 is stuck at 0; the complement has this weight. */
+#define EXCHANGED(WEIGHT) "circuit,1,1,2,1,1\ngate,not,1,0\noutput,1,1\noutput,2," WEIGHT "\nfault,1,0\n"
+/* The same with a gate that nothing reads, and a fault of it behind the hidden one. */
+#define SILENT_BEHIND "circuit,1,2,2,2,1\ngate,not,1,0\ngate,xor,1,1\noutput,1,1\noutput,2,1\nfault,1,0\nfault,3,1\n"
+
 static int32_t out[2 * WALSH_MAX_LIST];
 static int32_t list[2 * WALSH_MAX_LIST];
 static uint32_t work[WALSH_WORKING_NUMBERS + 1];
@@ -105,6 +110,7 @@ static const char *name(uint32_t number)
     case WALSH_SILENT_FAULT: return "silent fault";
     case WALSH_NO_SET_WITHIN_CAP: return "no set within cap";
     case WALSH_BAD_MARK: return "bad mark";
+    case WALSH_HIDDEN_FAULT: return "hidden fault";
     case WALSH_BAD_BRIDGE: return "bad bridge";
     default: return "unknown";
     }
@@ -736,7 +742,7 @@ static void signed_weights(void)
     put_measured("subtracted, reading with x2 at 1", reading(TEXT(SUBTRACTED), 2, 2));
     put_comparison("subtracted, fault 1", pair(TEXT(SUBTRACTED), 1, 0, 0));
     put_comparison("subtracted, fault 2 with x1 at 1", pair(TEXT(SUBTRACTED), 2, 1, 1));
-    /* Rows 0 and 0: every fault is silent, and the mean is +0. */
+    /* Rows 0 and 0: every fault that changes the outputs is hidden, and the mean is +0. */
     put_reply("cancelled, sound", circuit(TEXT(CANCELLED), 0, out, 3), 3);
     put_signature("cancelled, plan", plan(TEXT(CANCELLED), work, all));
     put_measured("cancelled, reading", reading(TEXT(CANCELLED), 0, 0));
@@ -756,6 +762,22 @@ static void signed_weights(void)
     put_refusal("output, five digits and a sign", WEIGHED("-10000"));
     put_refusal("output, a line with a sign", "circuit,1,0,1,1,1\noutput,-1,16\nfault,1,0\n");
     put_refusal("fault, a value with a sign", "circuit,1,0,1,1,1\noutput,1,-1\nfault,1,-0\n");
+}
+
+static void hidden_faults(void)
+{
+    size_t all = WALSH_WORKING_NUMBERS;
+
+    /* Rows 1 and 1, sound and under the fault. */
+    put_reply("hidden, sound", circuit(TEXT(EXCHANGED("1")), 0, out, 3), 3);
+    put_reply("hidden, fault 1", circuit(TEXT(EXCHANGED("1")), 1, out, 3), 3);
+    put_signature("hidden, plan", plan(TEXT(EXCHANGED("1")), work, all));
+    put_signature("hidden, too few working numbers", plan(TEXT(EXCHANGED("1")), work, all - 1));
+    put_written("hidden, report", report(TEXT(EXCHANGED("1")), bytes, sizeof bytes, work, all));
+    put_comparison("hidden, pair", pair(TEXT(EXCHANGED("1")), 1, 0, 0));
+    /* Rows 2 and 1, and 2 and 2 under the fault: another weight shows it at label 0. */
+    put_signature("told apart, plan", plan(TEXT(EXCHANGED("2")), work, all));
+    put_signature("silent behind hidden, plan", plan(TEXT(SILENT_BEHIND), work, all));
 }
 
 int main(void)
@@ -781,6 +803,7 @@ int main(void)
     bridges();
     wide_gates();
     signed_weights();
+    hidden_faults();
     fields();
     return 0;
 }

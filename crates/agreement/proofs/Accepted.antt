@@ -25,7 +25,7 @@ use Rattle.statements.specs.Items.{Fault}
 use Rattle.devices.specs.Describing.{described, description_of}
 use Rattle.devices.specs.Devices.{circuit_problem}
 use Rattle.devices.specs.Problems.{Problem, problem_from, rows_at}
-use Rattle.devices.proofs.ProblemRows.{fault-count, circuit-rows}
+use Rattle.devices.proofs.ProblemRows.{circuit-count, circuit-rows}
 use Rattle.devices.proofs.TextKinds.{circuit-described}
 use Rattle.screen.specs.Answers.{Done, minus, inputs_of, screen_of}
 use Rattle.transform.specs.Spectrum.{spectrum_of}
@@ -68,7 +68,7 @@ module _ (text : List ℕ) (n : Netlist) (parsed : parse_of text ≡ accepted n)
   pub circuit-answer-is : (room : ℕ) → circuit_answer text k room ≡ room_answer n.inputs room
   unfolding circuit_problem problem_from
   circuit-answer-is room =
-      answer-is text (circuit_problem n) (circuit-described text n parsed) k room (let q = fault-count n.inputs (rows_of n) n.faults n.cap in omega (arith, q, named))
+      answer-is text (circuit_problem n) (circuit-described text n parsed) k room (let q = circuit-count n in omega (arith, q, named))
 
 pub room-enough : (inputs room : ℕ) → 2 ^ inputs ≤ room → room_answer inputs room ≡ Done
 unfolding room_answer

@@ -30,7 +30,7 @@ use Rattle.faults.proofs.Digits.{digit-small}
 use Rattle.bridges.specs.Bridges.{bridged_answer, bridged_spectrum_of}
 use Rattle.devices.specs.Devices.{circuit_problem}
 use Rattle.devices.specs.Problems.{problem_from}
-use Rattle.devices.proofs.ProblemRows.{fault-count, circuit-rows}
+use Rattle.devices.proofs.ProblemRows.{circuit-count, circuit-rows}
 use Rattle.devices.proofs.TextKinds.{circuit-described}
 use Rattle.circuit.specs.CircuitCall.{circuit_answer, circuit_spectrum}
 use Rattle.agreement.proofs.Accepted.{named-bridge-fault}
@@ -106,7 +106,7 @@ module _ (text : List ℕ) (n : Netlist) (parsed : parse_of text ≡ accepted n)
       let right = named-bridge-fault n k (well-formed text n parsed) low high bridged in
       record {
         is = circuit-described text n parsed;
-        named = let q = fault-count n.inputs (rows_of n) n.faults n.cap in omega (arith, q, high);
+        named = let q = circuit-count n in omega (arith, q, high);
         right = right;
         rows = circuit-rows n k high ∙ bridge-rows n (fault_at n k) right;
       }

@@ -19,7 +19,7 @@ use Rattle.lookup.proofs.RowsOfTables.{bridged-table-rows}
 use Rattle.bridges.specs.Bridges.{bridged_answer, bridged_spectrum_of}
 use Rattle.devices.specs.Devices.{table_problem}
 use Rattle.devices.specs.Problems.{problem_from}
-use Rattle.devices.proofs.ProblemRows.{fault-count, table-rows}
+use Rattle.devices.proofs.ProblemRows.{table-count, table-rows}
 use Rattle.devices.proofs.TextKinds.{table-described}
 use Rattle.circuit.specs.CircuitCall.{circuit_answer, circuit_spectrum}
 use Rattle.agreement.proofs.Accepted.{right-bridged}
@@ -39,7 +39,7 @@ module _ (text : List ℕ) (t : TruthTable) (parsed : table_of text ≡ accepted
   agrees =
       record {
         is = table-described text t parsed;
-        named = let q = fault-count t.inputs (table_rows t) t.faults t.cap in omega (arith, q, high);
+        named = let q = table-count t in omega (arith, q, high);
         right = right;
         rows = table-rows t k high ∙ table-bridge-rows;
       }

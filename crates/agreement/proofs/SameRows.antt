@@ -10,7 +10,8 @@ use Rattle.integer.specs.Sum.{sum_to}
 use Rattle.integer.proofs.Tabs.{tab-ext}
 use Rattle.netlist.specs.Circuits.{Netlist}
 use Rattle.columns.specs.Shown.{shown}
-use Rattle.simulation.specs.Rows.{input_shown, input_values, gate_next, gates_next, line_values, output_term, row_value, gate_in}
+use Rattle.simulation.specs.Rows.{input_shown, input_values, gate_next, gates_next, line_values, row_value, gate_in}
+use Rattle.simulation.specs.Steps.{term_by}
 use Rattle.simulation.proofs.LineValues.{length-inputs, length-next}
 use Rattle.statements.specs.Items.{Fault}
 use Rattle.gate_lines.specs.GateItems.{Gate}
@@ -38,4 +39,4 @@ module _ (n : Netlist) (f g : Fault) (above : (line : ℕ) (v : Bool) → n.inpu
 
     pub same_row : row_value n f x ≡ row_value n g y
     unfolding row_value
-    same_row = ap (λ (l : List Bool). sum_to (length n.outputs) (output_term l n.outputs)) same_lines
+    same_row = ap (λ (l : List Bool). sum_to (length n.outputs) (term_by n.outputs l)) same_lines

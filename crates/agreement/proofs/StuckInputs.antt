@@ -34,7 +34,7 @@ use Rattle.faults.proofs.Sticking.{Rises}
 use Rattle.circuit.specs.CircuitCall.{circuit_answer, circuit_spectrum}
 use Rattle.devices.specs.Devices.{circuit_problem}
 use Rattle.devices.specs.Problems.{problem_from}
-use Rattle.devices.proofs.ProblemRows.{fault-count, circuit-rows}
+use Rattle.devices.proofs.ProblemRows.{circuit-count, circuit-rows}
 use Rattle.devices.proofs.TextKinds.{circuit-described}
 use Rattle.lookup.specs.StuckPairs.{present_pairs, pair_line, bit_for, pair_value, stuck_lines, stuck_values, pairs_of, OfInputs}
 use Rattle.lookup.proofs.StuckPairs.{bit-small, pairs-rise}
@@ -148,7 +148,7 @@ module _ (text : List ℕ) (n : Netlist) (parsed : parse_of text ≡ accepted n)
   unfolding circuit_problem problem_from
   agrees = record {
     is = circuit-described text n parsed;
-    named = let q = fault-count n.inputs (rows_of n) n.faults n.cap in omega (arith, q, high);
+    named = let q = circuit-count n in omega (arith, q, high);
     right = input-fault n (fault_at n k) right inputs-only;
     rows = circuit-rows n k high ∙ input-rows n (fault_at n k) right inputs-only;
   }

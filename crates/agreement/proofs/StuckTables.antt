@@ -16,11 +16,10 @@ use Rattle.tables.specs.TableParsing.{accepted_table, table_of}
 use Rattle.tables.specs.TableWellFormed.{TableRight}
 use Rattle.tables.proofs.TableAcceptance.{table-right}
 use Rattle.lookup.specs.StuckPairs.{stuck_lines, stuck_values}
-use Rattle.lookup.specs.TableRows.{table_rows}
 use Rattle.lookup.proofs.RowsOfTables.{stuck-table-rows, table-fault-of-inputs}
 use Rattle.devices.specs.Devices.{table_problem}
 use Rattle.devices.specs.Problems.{problem_from}
-use Rattle.devices.proofs.ProblemRows.{fault-count, table-rows}
+use Rattle.devices.proofs.ProblemRows.{table-count, table-rows}
 use Rattle.devices.proofs.TextKinds.{table-described}
 use Rattle.circuit.specs.CircuitCall.{circuit_answer, circuit_spectrum}
 use Rattle.agreement.proofs.Accepted.{right-unbridged}
@@ -38,7 +37,7 @@ module _ (text : List ℕ) (t : TruthTable) (parsed : table_of text ≡ accepted
       let w = table-right text t parsed in
       record {
         is = table-described text t parsed;
-        named = let q = fault-count t.inputs (table_rows t) t.faults t.cap in omega (arith, q, high);
+        named = let q = table-count t in omega (arith, q, high);
         right = right-unbridged t.inputs t.inputs (table_fault_at t k) (named-table-fault t k w low high) unbridged;
         rows = table-rows t k high ∙ stuck-table-rows t (table_fault_at t k) unbridged (table-fault-of-inputs t k w);
       }

@@ -2,8 +2,8 @@
 --   found-is                what the search by masks finds is the signature
 --   covers-each, each-covers    a set covers every fault where each fault has a label at which the two coefficients differ
 --   covers_more, covers-none    more labels cover as much; no label covers nothing
---   silent-each, each-silent    a fault is silent where every row's value is the sound one
---   silent-at, silent-before, silent-none    what the first silent fault is
+--   unchanged-each, each-unchanged, some-changed    the rows are unchanged where every row's value is the sound one; else some row's is another
+--   unchanged_pointwise    it is what `==` says of slices as long as each other
 --   signature-found         the signature covers every fault, and has from 1 to cap labels
 --   signature-least         no list of labels that covers every fault is shorter
 --   signature-none          where there is none, no list of at most cap labels covers every fault
@@ -16,16 +16,19 @@ use mathlib.Core.List.{List, [], ◌∷◌, Memᴰ}
 use mathlib.Core.Option.{none, some}
 use Prim.Native.Nat.{ℕ, zero, suc, ◌+◌, ◌-◌, ◌<◌, ◌≤◌, ◌^◌}
 use native.Mathlib.Omega.{arith}
-use lib.IntN.{ℤ}
+use lib.IntN.{ℤ, pos}
 use lib.ListN.{length, get_or, drop, drop_of_length-le}
-use lib.Seq.{drop-cons}
+use lib.Seq.{drop-cons, ext_get_or}
+use Rattle.std.specs.Cmp.Lexicographic.{pointwise, pointwise_decides}
+use Rattle.std.specs.Ordering.{int_eq}
+use Rattle.std.specs.Prelude.{Decides}
+use Rattle.std.proofs.lemmas.Bool.Decides.{Decides-int_eq}
 use borrow.Author.Tests.{not-true, not-false}
 use Rattle.integer.specs.Tab.{nth}
 use Rattle.integer.specs.Differ.{differ}
 use Rattle.integer.specs.Counting.{count, up_to}
 use Rattle.integer.specs.ListTests.{distinct, subsequence}
 use Rattle.integer.specs.Mask.{bit}
-use Rattle.integer.proofs.Firsts.{first-at, first-before}
 use Rattle.integer.proofs.Masks.{bit_mask}
 use Rattle.integer.proofs.NumbersBelow.{all_same, each_all, all-each, some-fails, count-high}
 use Rattle.integer.proofs.Subsequences.{sub-distinct}
@@ -37,42 +40,42 @@ use Rattle.search.specs.Steps.{clears, labels_at, set_of, set_at}
 use Rattle.search.proofs.Clearing.{clears-full}
 use Rattle.search.proofs.Sets.{plan-found, first-earliest, least, none-less, in_order, plan-mapped}
 use Rattle.search.proofs.SetsBySize.{sets-sub}
-use Rattle.cover.specs.Cover.{fault_rows, covers, covers_fault, covers_all, same_at, silent, silent_at, first_silent, signature_of}
+use Rattle.cover.specs.Cover.{fault_rows, covers, covers_fault, covers_all, same_at, unchanged, signature_of}
 use Rattle.cover.specs.Order.{labels_below, rising, precedes}
 use Rattle.cover.specs.Steps.{covers_at, mask_at, masks_of}
 use Rattle.cover.proofs.LabelOrder.{labels-count, labels-all, labels-low, labels-distinct}
 use Rattle.cover.proofs.Marking.{length-masks, masks-at}
 use Rattle.cover.proofs.Rising.{sub-rising, labels-rising, first-precedes}
 
--- Silent faults.
+-- Faults that leave the rows unchanged.
 
 module _ (sound faulted : List ℤ) where
-  pub silent-each : silent sound faulted ≡ true → (x : ℕ) → x < length sound → nth sound x ≡ nth faulted x
-  unfolding silent same_at
-  silent-each e x h = differ-eq (nth sound x) (nth faulted x) (not-true (differ (nth sound x) (nth faulted x)) (all-each (same_at sound faulted) (length sound) e x h))
+  pub unchanged-each : unchanged sound faulted ≡ true → (x : ℕ) → x < length sound → nth sound x ≡ nth faulted x
+  unfolding unchanged same_at
+  unchanged-each e x h = differ-eq (nth sound x) (nth faulted x) (not-true (differ (nth sound x) (nth faulted x)) (all-each (same_at sound faulted) (length sound) e x h))
 
-  pub each-silent : ((x : ℕ) → x < length sound → nth sound x ≡ nth faulted x) → silent sound faulted ≡ true
-  unfolding silent same_at
-  each-silent same = each_all (same_at sound faulted) (length sound) (λ x h. ap not (eq-differ (nth sound x) (nth faulted x) (same x h)))
+  pub each-unchanged : ((x : ℕ) → x < length sound → nth sound x ≡ nth faulted x) → unchanged sound faulted ≡ true
+  unfolding unchanged same_at
+  each-unchanged same = each_all (same_at sound faulted) (length sound) (λ x h. ap not (eq-differ (nth sound x) (nth faulted x) (same x h)))
 
-  pub not-silent : silent sound faulted ≡ false → (x : ℕ) × (x < length sound) × (nth sound x ≡ nth faulted x → ⊥)
-  unfolding silent same_at
-  not-silent e =
+  pub some-changed : unchanged sound faulted ≡ false → (x : ℕ) × (x < length sound) × (nth sound x ≡ nth faulted x → ⊥)
+  unfolding unchanged same_at
+  some-changed e =
       let r = some-fails (same_at sound faulted) (length sound) e in
       (r.0, r.1, differ-ne (nth sound r.0) (nth faulted r.0) (not-false (differ (nth sound r.0) (nth faulted r.0)) r.2))
 
+  pub unchanged_pointwise : length faulted ≡ length sound → pointwise int_eq sound faulted ≡ unchanged sound faulted
+  unchanged_pointwise even = go (pointwise int_eq sound faulted) (pointwise_decides Decides-int_eq sound faulted)
+    where
+      go : (t : Bool) → Decides t (sound ≡ faulted) → t ≡ unchanged sound faulted
+      go true d = sym (each-unchanged (λ x h. ap (λ (l : List ℤ). nth l x) (d.0 refl)))
+      go false d = none (unchanged sound faulted) unchanged-each
+        where
+          none : (u : Bool) → (u ≡ true → (x : ℕ) → x < length sound → nth sound x ≡ nth faulted x) → false ≡ u
+          none true each = d.1 (ext_get_or (pos 0) sound faulted (sym even) (each refl))
+          none false each = refl
+
 module _ (sound : List ℤ) (faults : List (List ℤ)) where
-  pub silent-at : first_silent sound faults < length faults → (x : ℕ) → x < length sound → nth sound x ≡ nth (fault_rows faults (first_silent sound faults)) x
-  unfolding first_silent silent_at
-  silent-at h = silent-each sound (fault_rows faults (first_silent sound faults)) (first-at (silent_at sound faults) (length faults) h)
-
-  pub silent-before : (f : ℕ) → f < first_silent sound faults → (x : ℕ) × (x < length sound) × (nth sound x ≡ nth (fault_rows faults f) x → ⊥)
-  unfolding first_silent silent_at
-  silent-before f h = not-silent sound (fault_rows faults f) (first-before (silent_at sound faults) (length faults) f h)
-
-  pub silent-none : length faults ≤ first_silent sound faults → (f : ℕ) → f < length faults → (x : ℕ) × (x < length sound) × (nth sound x ≡ nth (fault_rows faults f) x → ⊥)
-  silent-none h f l = silent-before f (omega arith)
-
   -- Labels that cover every fault.
 
   pub covers-each : (xs : List ℕ) → covers_all sound faults xs ≡ true

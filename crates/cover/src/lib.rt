@@ -5,5 +5,5 @@
 mod marks;
 mod order;
 
-pub use marks::{clear, mark};
+pub use marks::{clear, mark, unchanged};
 pub use order::labels_below;

@@ -2,7 +2,7 @@
 ghost use Rattle.std.specs.Prelude.{false, ◌≡◌, ◌≤◌, ◌<◌, ◌^◌, length, replicate};
 ghost use Rattle.integer.specs.Tab.{Within};
 ghost use Rattle.integer.specs.ListTests.{Below};
-ghost use Rattle.cover.specs.Cover.{silent};
+ghost use Rattle.cover.specs.Cover.{unchanged};
 ghost use Rattle.cover.specs.Steps.{differences, bit_added, marked};
 
 // No fault marked.
@@ -13,10 +13,10 @@ pub fn clear(masks: &mut [u32])
 }
 
 // The differences of the rows, and whether all are 0.
-#[tactic(auto, using(integer::proofs::Tabs::filled), unfolding(integer::specs::Tab::tab, integer::specs::Counting::all_below, crate::specs::Cover::silent, crate::specs::Steps::differences))]
+#[tactic(auto, using(integer::proofs::Tabs::filled), unfolding(integer::specs::Tab::tab, integer::specs::Counting::all_below, crate::specs::Cover::unchanged, crate::specs::Steps::differences))]
 fn differences(sound: &[i32], faulted: &[i32], out: &mut [i64]) -> bool
     requires { (length faulted.now ≡ length sound.now) × (length out.old ≡ length sound.now) × Within 1000 sound.now × Within 1000 faulted.now }
-    ensures value { result ≡ silent sound.now faulted.now }
+    ensures value { result ≡ unchanged sound.now faulted.now }
     ensures out_after { out.new ≡ differences sound.now faulted.now }
 {
     let mut same = true;
@@ -43,7 +43,16 @@ fn add_marks(coefficients: &[i64], labels: &[u32], bit: u32, masks: &mut [u32])
     }
 }
 
-// Marks the fault at each label that covers it, unless the fault is silent; whether it is.
+// Whether no row differs.
+#[tactic(auto, using(crate::proofs::Signatures::unchanged_pointwise))]
+pub fn unchanged(sound: &[i32], faulted: &[i32]) -> bool
+    requires { length faulted.now ≡ length sound.now }
+    ensures { result ≡ unchanged sound.now faulted.now }
+{
+    sound == faulted
+}
+
+// Marks the fault at each label that covers it, unless it leaves the rows unchanged; whether it does.
 pub fn mark(
     sound: &[i32],
     faulted: &[i32],
@@ -56,14 +65,14 @@ pub fn mark(
     requires labels_len { (length labels.now ≡ length sound.now) × (length masks.old ≡ length sound.now) }
     requires below { Below (length sound.now) labels.now × Below (2 ^ fault) masks.old }
     requires within { Within 1000 sound.now × Within 1000 faulted.now }
-    ensures value { result ≡ silent sound.now faulted.now }
+    ensures value { result ≡ unchanged sound.now faulted.now }
     ensures masks_after { result ≡ false → masks.new ≡ marked sound.now faulted.now labels.now fault masks.old }
 {
     let n = sound.len();
     let mut work = [0i64; 256];
     let work = &mut work[..n];
-    let silent = differences(sound, faulted, work);
-    if silent {
+    let unchanged = differences(sound, faulted, work);
+    if unchanged {
         return true;
     }
     transform::transform(work, inputs);

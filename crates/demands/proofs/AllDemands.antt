@@ -53,7 +53,7 @@ use Rattle.demands.specs.DemandTwo.{DemandTwo}
 use Rattle.demands.specs.Demands.{Demands}
 use Rattle.demands.proofs.ListCalls.{spectrum-tested, rows-tested, coefficient-tested, stuck-tested, opened-tested, bridged-tested, writes-of, spectrum-zero, rows-zero, stuck-zero, opened-zero, bridged-zero, coefficient-zero}
 use Rattle.demands.proofs.TextCalls.{circuit-tested, plan-tested, report-tested, reading-tested, pair-tested, plan-writing, report-writing, report-working, plan-zero, report-zero, reading-zero, pair-zero, tables-unread, tables-unpaired}
-use Rattle.demands.proofs.PlansMeant.{demand-three-circuit, demand-three-table}
+use Rattle.demands.proofs.PlansMeant.{demand-three-circuit, demand-three-table, demand-three-before}
 use Rattle.demands.proofs.SpectraCircuits.{spectra-right, faulty-spectra-right, circuits-right, tables-right, readings-right, case-right}
 
 -- the numbers of a line and 7 together
@@ -211,4 +211,4 @@ demand-two =
     }
 
 pub all-demands : Demands
-all-demands = record { one = demand-one; two = demand-two; three = record { plan = demand-three; circuit = demand-three-circuit; table = demand-three-table; printed = printed-covers; line = printed-line } }
+all-demands = record { one = demand-one; two = demand-two; three = record { plan = demand-three; circuit = demand-three-circuit; table = demand-three-table; plans-as-before = demand-three-before; printed = printed-covers; line = printed-line } }

@@ -27,7 +27,7 @@ use Rattle.devices.specs.Describing.{Description, described, refused_at, descrip
 use Rattle.devices.specs.Problems.{Problem}
 use Rattle.circuit.specs.CircuitCall.{room_answer, fault_answer, circuit_answer}
 use Rattle.planner.specs.PlanCall.{Verdict, refused, planned, verdict_of, working_numbers, problem_verdict, plan_verdict, plan_numbers, plan_answer, verdict_number, may_use, WorkKept, Planned}
-use Rattle.planner.specs.Demand.{Possible, Right}
+use Rattle.planner.specs.Demand.{Named, Possible, FirstFault, Right}
 use Rattle.planner.proofs.Demanded.{demand-three}
 use Rattle.report_lines.specs.ReportLines.{refused_line, report_bytes}
 use Rattle.report.specs.ReportCall.{verdict_lines, problem_report, report_of, short, report_answer, report_left, report_verdict, Reported}
@@ -35,7 +35,7 @@ use Rattle.reading.specs.Readings.{ReadingAnswer, Syndrome, Weighted, Constraine
 use Rattle.fixture.proofs.Exactly.{case-done}
 use Rattle.fixture.specs.ReadingCall.{Compared, fixes_inputs, is_weighted, fault_mean, unless12, circuit_reading, reading_answer, unread, pair_numbers, names_fault, circuit_pair, pair_answer}
 use Rattle.demands.specs.Tests.{NoRefusal, RefusedIf, by-this, by-later, AtNone, OnDevice, OnText}
-use Rattle.demands.specs.Refusals.{CircuitTests, FirstSilentFault, PlanTests, FixesInputs, ReadingTests, CircuitFault, PairTests}
+use Rattle.demands.specs.Refusals.{CircuitTests, FaultTests, PlanTests, FixesInputs, ReadingTests, CircuitFault, PairTests}
 use Rattle.demands.specs.DemandOne.{PlanWrites, ReportWrites}
 use Rattle.demands.proofs.ListCalls.{refused-if}
 
@@ -76,16 +76,21 @@ module _ (text : List ℕ) (work : ℕ) where
   plan-accepted n e = rw e
 
   -- with enough working numbers, by demand 3
-  plan-right : (n : Problem) → Right n plan → RefusedIf 13 (FirstSilentFault n) (RefusedIf 14 (AtNone (Possible n → ⊥)) NoRefusal) plan.number plan.place
+  plan-right : (n : Problem) → Right n plan → FaultTests n (RefusedIf 14 (AtNone (Possible n → ⊥)) NoRefusal) plan.number plan.place
   plan-right n r = go r.no_other
     where
-      none-silent : (plan.number ≡ 13 → ⊥) → (p : ℕ) → FirstSilentFault n p → ⊥
-      none-silent f p s = f (r.silent-exactly.1 (p, s.named, s.silent))
+      some : {Kind : ℕ → Type 0} (p : ℕ) → FirstFault n Kind p → (f : ℕ) × Named n f × Kind f
+      some p s = (p, s.named, s.here)
 
-      go : (plan.number ≡ 0) ⊎ ((plan.number ≡ 13) ⊎ (plan.number ≡ 14)) → RefusedIf 13 (FirstSilentFault n) (RefusedIf 14 (AtNone (Possible n → ⊥)) NoRefusal) plan.number plan.place
-      go (inl z) = by-later (none-silent (λ e. omega (arith, z, e))) (by-later (λ p f. f.0 (r.planned-exactly.0 z)) (z, r.plan-place z))
-      go (inr (inl z)) = let s = r.silent-first z in by-this record { named = s.0; silent = s.1; none-earlier = s.2 } z
-      go (inr (inr z)) = by-later (none-silent (λ e. omega (arith, z, e))) (by-this ((r.unplanned-exactly.0 z).0, r.unplanned-place z) z)
+      go : (plan.number ≡ 0) ⊎ ((plan.number ≡ 13) ⊎ ((plan.number ≡ 16) ⊎ (plan.number ≡ 14))) → FaultTests n (RefusedIf 14 (AtNone (Possible n → ⊥)) NoRefusal) plan.number plan.place
+      go (inl z) =
+          let none = r.plan-none-hidden z in
+          by-later (λ p s. none.0 (some p s)) (by-later (λ p s. none.1 (some p s)) (by-later (λ p f. f.0 (r.planned-exactly.0 z)) (z, r.plan-place z)))
+      go (inr (inl z)) = by-this (r.silent-first z) z
+      go (inr (inr (inl z))) = by-later (λ p s. (r.hidden-exactly.0 z).0 (some p s)) (by-this (r.hidden-first z) z)
+      go (inr (inr (inr z))) =
+          let none = r.unplanned-exactly.0 z in
+          by-later (λ p s. none.1 (some p s)) (by-later (λ p s. none.2 (some p s)) (by-this (none.0, r.unplanned-place z) z))
 
   pub plan-tested : OnDevice text (PlanTests work) plan.number plan.place
   plan-tested = go (description_of text) refl
@@ -117,16 +122,16 @@ number_is : (v : Verdict) → (plan_numbers v).number ≡ verdict_number v
 number_is (refused number place) = refl
 number_is (planned labels) = refl
 
-kept_by : (v : Verdict) → (verdict_number v ≡ 0 → ⊥) → (verdict_number v ≡ 13 → ⊥) → (verdict_number v ≡ 14 → ⊥) → may_use v ≡ false
+kept_by : (v : Verdict) → (verdict_number v ≡ 0 → ⊥) → (verdict_number v ≡ 13 → ⊥) → (verdict_number v ≡ 16 → ⊥) → (verdict_number v ≡ 14 → ⊥) → may_use v ≡ false
 unfolding may_use
-kept_by v a b c = rw (ne_eqb (verdict_number v) 0 a, ne_eqb (verdict_number v) 13 b, ne_eqb (verdict_number v) 14 c)
+kept_by v a b c d = rw (ne_eqb (verdict_number v) 0 a, ne_eqb (verdict_number v) 13 b, ne_eqb (verdict_number v) 16 c, ne_eqb (verdict_number v) 14 d)
 
 pub plan-writing : (text before after : List ℕ) → WorkKept (plan_verdict text (length before)) before after → PlanWrites text before after
 unfolding plan_answer
 plan-writing text before after k =
     let v = plan_verdict text (length before) in
     let n = number_is v in
-    record { later = k.later-kept; refused = λ a b c. k.all-kept (kept_by v (λ e. a (n ∙ e)) (λ e. b (n ∙ e)) (λ e. c (n ∙ e))) }
+    record { later = k.later-kept; refused = λ a b c d. k.all-kept (kept_by v (λ e. a (n ∙ e)) (λ e. b (n ∙ e)) (λ e. c (n ∙ e)) (λ e. d (n ∙ e))) }
 
 -- ---- the report call
 
@@ -182,10 +187,10 @@ module _ (text : List ℕ) where
   report-working room before after = go (short room (length before))
     where
       eight : WorkKept (refused 8 0) before after → after ≡ before
-      eight k = k.all-kept (kept_by (refused 8 0) (λ z. absurd (omega arith)) (λ z. absurd (omega arith)) (λ z. absurd (omega arith)))
+      eight k = k.all-kept (kept_by (refused 8 0) (λ z. absurd (omega arith)) (λ z. absurd (omega arith)) (λ z. absurd (omega arith)) (λ z. absurd (omega arith)))
 
       go : (t : Bool) → WorkKept (cond t (refused 8 0) (plan_verdict text (length before))) before after → ((reported t).number ≡ 8 → after ≡ before) × PlanWrites text before after
-      go true k = (λ e. eight k, record { later = k.later-kept; refused = λ a b c. eight k })
+      go true k = (λ e. eight k, record { later = k.later-kept; refused = λ a b c d. eight k })
       go false k = (λ e. absurd (omega arith), plan-writing text before after k)
 
 -- ---- readings

@@ -126,10 +126,11 @@ pub record Writes (a : Answer) (new out : List ℤ) : Type 0 where
   pub refused : (answer_number a ≡ 0 → ⊥) → leaves a new out ≡ out
   pub done : answer_number a ≡ 0 → leaves a new out ≡ written new out
 
--- the plan call, and the report call, on working numbers that are `before`, and hold `after` afterwards: "13 and 14 may have used the working numbers", "later ones are untouched"
+-- the plan call, and the report call, on working numbers that are `before`, and hold `after` afterwards: "13 and 14 may have used the working numbers", "later ones are untouched"; of 16:
+-- "the working numbers free as with these" (document 02, note 5)
 pub record PlanWrites (text before after : List ℕ) : Type 0 where
   pub later : drop 4608 after ≡ drop 4608 before
-  pub refused : let number = (plan_answer text (length before)).number in (number ≡ 0 → ⊥) → (number ≡ 13 → ⊥) → (number ≡ 14 → ⊥) → after ≡ before
+  pub refused : let number = (plan_answer text (length before)).number in (number ≡ 0 → ⊥) → (number ≡ 13 → ⊥) → (number ≡ 16 → ⊥) → (number ≡ 14 → ⊥) → after ≡ before
 
 -- the report call's lent bytes: "if either is short it returns 8 before all else and writes nothing", else the refusal is a line of the report
 pub record ReportWrites (text out : List ℕ) (work : ℕ) : Type 0 where

@@ -1,4 +1,4 @@
--- When each call refuses, by the paper's table (document 01, "What is returned") and document 02's note 8, in their words.
+-- When each call refuses, by the paper's table (document 01, "What is returned") and document 02's notes 5 and 8, in their words.
 use Rattle.std.specs.Prelude.{ℕ, ◌*◌, ◌%◌, ◌^◌, ◌<◌, ◌≤◌, List, ◌⊎◌, ◌≡◌, ℤ, nat_abs, length}
 use Rattle.std.specs.Int.Bits.{bit_and}
 use Rattle.integer.specs.Tab.{nth}
@@ -11,7 +11,7 @@ use Rattle.bridges.specs.Bridges.{pair_sum}
 use Rattle.netlist.specs.Circuits.{Netlist}
 use Rattle.tables.specs.Tables.{TruthTable}
 use Rattle.devices.specs.Problems.{Problem}
-use Rattle.planner.specs.Demand.{Named, Possible, Silent}
+use Rattle.planner.specs.Demand.{Possible, Silent, Hidden, FirstFault}
 use Rattle.demands.specs.Tests.{NoRefusal, RefusedIf, AtNone}
 
 -- Lists
@@ -78,14 +78,12 @@ BridgedTests c i j room =
 abbrev pub CircuitTests : ℕ → ℕ → Problem → ℕ → ℕ → Type 0
 CircuitTests fault room p = RefusedIf 12 (AtNone (length p.faulted < fault)) (RefusedIf 8 (AtNone (room < 2 ^ p.inputs)) NoRefusal)
 
--- 13: "the first silent fault"
-pub record FirstSilentFault (p : Problem) (place : ℕ) : Type 0 where
-  pub named : Named p place
-  pub silent : Silent p place
-  pub none-earlier : (f : ℕ) → 1 ≤ f → f < place → Silent p f → ⊥
+-- 13: "the first silent fault"; 16: "the first hidden fault, after 13 and before 14" (document 02, note 5)
+abbrev pub FaultTests : Problem → (ℕ → ℕ → Type 0) → ℕ → ℕ → Type 0
+FaultTests p next = RefusedIf 13 (FirstFault p (Silent p)) (RefusedIf 16 (FirstFault p (Hidden p)) next)
 
 abbrev pub PlanTests : ℕ → Problem → ℕ → ℕ → Type 0
-PlanTests work p = RefusedIf 8 (AtNone (work < 4608)) (RefusedIf 13 (FirstSilentFault p) (RefusedIf 14 (AtNone (Possible p → ⊥)) NoRefusal))
+PlanTests work p = RefusedIf 8 (AtNone (work < 4608)) (FaultTests p (RefusedIf 14 (AtNone (Possible p → ⊥)) NoRefusal))
 
 -- "12 unless the mask is below 2^N and values lie within it"
 abbrev pub FixesInputs : Netlist → ℕ → ℕ → Type 0

@@ -1,15 +1,15 @@
 -- A device by its form: what a circuit or a table gives as its problem.
 use Rattle.std.proofs.Common.{◌≡◌, ◌∙◌, ℕ, ◌≤◌, sym, ap, length}
 use Rattle.netlist.specs.Circuits.{Netlist, fault_at}
-use Rattle.simulation.specs.Rows.{rows_of}
+use Rattle.simulation.specs.Rows.{rows_of, outputs_of}
 use Rattle.tables.specs.Tables.{TruthTable, table_fault_at}
 use Rattle.lookup.specs.TableRows.{table_rows}
 use Rattle.devices.specs.Devices.{circuit_problem, table_problem}
 use Rattle.devices.specs.Forms.{form_problem}
-use Rattle.devices.specs.Problems.{Problem, problem_from, rows_at}
+use Rattle.devices.specs.Problems.{Problem, problem_from, rows_at, outputs_at}
 use Rattle.devices.specs.declared.device.Form.{Form}
 use Rattle.devices.specs.declared.device.Form.TheVariants.{Gates, Marks}
-use Rattle.devices.proofs.ProblemRows.{fault-count, circuit-rows, table-rows}
+use Rattle.devices.proofs.ProblemRows.{circuit-count, circuit-rows, circuit-outputs, table-count, table-rows, table-outputs}
 
 module _ (form : Form) (p : Problem) (view : form_problem form ≡ p) where
   module _ (n : Netlist) (is : form ≡ Gates n) where
@@ -25,11 +25,13 @@ module _ (form : Form) (p : Problem) (view : form_problem form ≡ p) where
     circuit-cap = ap (λ (q : Problem). q.cap) is_circuit_problem
 
     pub circuit-faults : length n.faults ≡ length p.faulted
-    unfolding circuit_problem
-    circuit-faults = sym (fault-count n.inputs (rows_of n) n.faults n.cap) ∙ ap (λ (q : Problem). length q.faulted) is_circuit_problem
+    circuit-faults = sym (circuit-count n) ∙ ap (λ (q : Problem). length q.faulted) is_circuit_problem
 
     pub circuit-rows-at : (k : ℕ) → k ≤ length n.faults → rows_of n (fault_at n k) ≡ rows_at p k
     circuit-rows-at k h = sym (circuit-rows n k h) ∙ ap (λ (q : Problem). rows_at q k) is_circuit_problem
+
+    pub circuit-outputs-at : (k : ℕ) → k ≤ length n.faults → outputs_of n (fault_at n k) ≡ outputs_at p k
+    circuit-outputs-at k h = sym (circuit-outputs n k h) ∙ ap (λ (q : Problem). outputs_at q k) is_circuit_problem
 
   module _ (t : TruthTable) (is : form ≡ Marks t) where
     pub is_table_problem : table_problem t ≡ p
@@ -44,8 +46,10 @@ module _ (form : Form) (p : Problem) (view : form_problem form ≡ p) where
     table-cap = ap (λ (q : Problem). q.cap) is_table_problem
 
     pub table-faults : length t.faults ≡ length p.faulted
-    unfolding table_problem
-    table-faults = sym (fault-count t.inputs (table_rows t) t.faults t.cap) ∙ ap (λ (q : Problem). length q.faulted) is_table_problem
+    table-faults = sym (table-count t) ∙ ap (λ (q : Problem). length q.faulted) is_table_problem
 
     pub table-rows-at : (k : ℕ) → k ≤ length t.faults → table_rows t (table_fault_at t k) ≡ rows_at p k
     table-rows-at k h = sym (table-rows t k h) ∙ ap (λ (q : Problem). rows_at q k) is_table_problem
+
+    pub table-outputs-at : (k : ℕ) → rows_at p k ≡ outputs_at p k
+    table-outputs-at k = ap (λ (q : Problem). rows_at q k) (sym is_table_problem) ∙ sym (table-outputs t k) ∙ ap (λ (q : Problem). outputs_at q k) is_table_problem

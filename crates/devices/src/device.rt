@@ -1,6 +1,6 @@
 // A device: a circuit or a table. In contracts it is its problem, whichever text it came from.
 ghost use Rattle.std.specs.Prelude.{◌≡◌, ◌^◌, ◌≤◌, length};
-ghost use Rattle.devices.specs.Problems.{rows_at, Proper};
+ghost use Rattle.devices.specs.Problems.{rows_at, outputs_at, Proper};
 
 use netlist::Circuit;
 use std::marker::Model;
@@ -92,6 +92,17 @@ impl Device {
         match &self.form {
             Form::Gates(circuit) => simulation::rows(circuit, circuit.fault(fault), out),
             Form::Marks(table) => lookup::rows(table, table.fault(fault), out),
+        }
+    }
+
+    /// What the outputs show on each row, as one number: a table's only output is its mark.
+    pub fn outputs(&self, fault: usize, out: &mut [i32])
+        requires { (fault ≤ length self.now.faulted) × (length out.old ≡ 2 ^ self.now.inputs) }
+        ensures { out.new ≡ outputs_at self.now fault }
+    {
+        match &self.form {
+            Form::Gates(circuit) => simulation::outputs(circuit, circuit.fault(fault), out),
+            Form::Marks(_) => self.rows(fault, out),
         }
     }
 }

@@ -1,4 +1,4 @@
-// What a text describes, a circuit or a table, and its rows. The calls that plan and report know this crate and neither parser.
+// What a text describes, a circuit or a table, its rows and what its outputs show. The calls that plan and report know this crate and neither parser.
 #![tactic(auto)]
 
 mod describing;

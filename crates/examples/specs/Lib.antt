@@ -6,3 +6,4 @@ pub mod Notes
 pub mod TableTexts
 pub mod WideTexts
 pub mod SignedTexts
+pub mod HiddenTexts

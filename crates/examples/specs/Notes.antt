@@ -5,6 +5,7 @@ use Rattle.screen.specs.Answers.{minus}
 use Rattle.examples.specs.BridgeTexts.{bridged_listing, bridged_listing_report, silent_bridge, silent_bridge_report, bridged_table, bridged_table_report, gate_with, table_with}
 use Rattle.examples.specs.Functions.{bridged_figure}
 use Rattle.examples.specs.Table.{Case, whole, bridged, bridged_whole, bridged_not, circuit, plan, no_plan, report, reading, compares, plus, less}
+use Rattle.examples.specs.HiddenTexts.{exchanged_outputs, hidden_report, unequal_outputs, output_subtracted, silent_behind}
 use Rattle.examples.specs.SignedTexts.{with_output, subtracted_report, subtracted_input, opposite_weights, with_fault}
 use Rattle.examples.specs.WideTexts.{wide_and, wide_and_report, wide_parity, with_gate}
 use Rattle.examples.specs.TableTexts.{figure_table, small_table, small_table_report, constant_table, constant_table_report, comma_table, short_table, line_above_table}
@@ -66,10 +67,10 @@ note_table =
     ∷ compares (with_output "output,7,-1") 1 0 0 (less 5 1) (less 5 1) (plus 0 0)
     ∷ reading (with_output "output,7,2") 0 0 (Weighted (plus 1 0))
     ∷ reading (with_output "output,7,1") 0 0 (Syndrome (plus 5 1))
-    -- an input of weight -15; an input that is added and subtracted, whose faults are silent
+    -- an input of weight -15; an input that is added and subtracted, whose faults are hidden (note 5)
     ∷ circuit subtracted_input 0 (minus 15 ∷ pos 15 ∷ [])
     ∷ circuit opposite_weights 0 (pos 0 ∷ pos 0 ∷ [])
-    ∷ no_plan opposite_weights 13 1
+    ∷ no_plan opposite_weights 16 1
     ∷ reading opposite_weights 0 0 (Weighted (plus 0 0))
     -- 2, 3 and 5 of an output's line, in that order
     ∷ no_plan (with_output "output,7,-0") 2 6
@@ -94,6 +95,15 @@ note_table =
     ∷ no_plan (with_fault "fault,1,-0") 2 3
     ∷ no_plan (with_fault "fault,1,-1") 2 3
     ∷ no_plan (with_gate "gate,and,1,-2") 2 2
+    -- Note 5: outputs that change places, told apart by other weights; an output that is subtracted too; a silent fault goes before a hidden one
+    ∷ no_plan exchanged_outputs 16 1
+    ∷ report exchanged_outputs hidden_report
+    ∷ circuit exchanged_outputs 0 (pos 2 ∷ pos 0 ∷ [])
+    ∷ circuit exchanged_outputs 1 (pos 2 ∷ pos 0 ∷ [])
+    ∷ plan unequal_outputs (0 ∷ [])
+    ∷ no_plan output_subtracted 16 1
+    ∷ report output_subtracted hidden_report
+    ∷ no_plan silent_behind 13 2
     -- Note 8: example 6.2 of 004, its spectrum, and label 0 under each bridge; 2,3 and 3,4 leave the sound one
     ∷ whole bridged_figure (pos 7 ∷ pos 1 ∷ pos 3 ∷ pos 1 ∷ minus 1 ∷ minus 3 ∷ minus 1 ∷ pos 1 ∷ pos 3 ∷ pos 1 ∷ minus 1 ∷ pos 1 ∷ minus 1 ∷ pos 1 ∷ minus 1 ∷ pos 5 ∷ [])
     ∷ bridged bridged_figure 1 2 (pos 10)

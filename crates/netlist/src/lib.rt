@@ -55,7 +55,8 @@ impl Circuit {
     }
 
     pub fn outputs(&self) -> &[Output]
-        ensures { result.now ≡ self.now.outputs }
+        ensures value { result.now ≡ self.now.outputs }
+        ensures few { length result.now ≤ 4 }
     {
         &self.outputs[..self.head.outputs]
     }

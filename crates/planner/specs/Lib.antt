@@ -1,2 +1,3 @@
 pub mod PlanCall
 pub mod Demand
+pub mod PlansBefore

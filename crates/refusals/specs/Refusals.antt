@@ -1,11 +1,11 @@
 -- The number and the place of a refusal (document 01, "What is returned"):
 --   "Place is a line of the text (from 1), an index in the list (from 0, its own label or row) or a fault (from 1), and 0 where none is named."
--- 15 is of a table's marks (document 02, note 1) and 19 of a bridge (document 02, note 8).
+-- 15 is of a table's marks (document 02, note 1), 16 of a hidden fault (note 5) and 19 of a bridge (note 8).
 use Rattle.std.specs.Prelude.{◌≡◌, ℕ, Result, Ok, Err, MatchResult}
 use Rattle.refusals.specs.declared.Flaw.{Flaw}
 use Rattle.refusals.specs.declared.Flaw.TheVariants.{Malformed, OutOfRange as ValueOutOfRange, ReadsAhead, NoSuchLine, NotRising, NotAMark, NotInputs}
 use Rattle.refusals.specs.declared.Refusal.{Refusal}
-use Rattle.refusals.specs.declared.Refusal.TheVariants.{TextTooLong, Line, TextGoesOn, ShortBuffer, WrongLength, OutOfRange, Indivisible, WrongArgument, Silent, NoSet}
+use Rattle.refusals.specs.declared.Refusal.TheVariants.{TextTooLong, Line, TextGoesOn, ShortBuffer, WrongLength, OutOfRange, Indivisible, WrongArgument, Silent, Hidden, NoSet}
 
 abbrev pub flaw_number : Flaw → ℕ
 flaw_number Malformed = 2
@@ -26,6 +26,7 @@ refusal_number (OutOfRange index) = 10
 refusal_number (Indivisible index) = 11
 refusal_number WrongArgument = 12
 refusal_number (Silent fault) = 13
+refusal_number (Hidden fault) = 16
 refusal_number NoSet = 14
 
 abbrev pub refusal_place : Refusal → ℕ
@@ -38,6 +39,7 @@ refusal_place (OutOfRange index) = index
 refusal_place (Indivisible index) = index
 refusal_place WrongArgument = 0
 refusal_place (Silent fault) = fault
+refusal_place (Hidden fault) = fault
 refusal_place NoSet = 0
 
 -- what a call answers, as document 01 has it: of its value, or of a refusal's number and place

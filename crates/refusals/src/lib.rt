@@ -37,8 +37,10 @@ pub enum Refusal {
     /// The first sum that does not divide, or gives a row out of range.
     Indivisible { index: usize },
     WrongArgument,
-    /// The first silent fault.
+    /// The first silent fault: it changes no output.
     Silent { fault: usize },
+    /// The first hidden fault: it changes an output and no row's value.
+    Hidden { fault: usize },
     /// No set of labels within the cap covers every fault.
     NoSet,
 }
@@ -83,6 +85,7 @@ impl Refusal {
             Refusal::WrongArgument => 12,
             Refusal::Silent { .. } => 13,
             Refusal::NoSet => 14,
+            Refusal::Hidden { .. } => 16,
         }
     }
 
@@ -93,7 +96,7 @@ impl Refusal {
         match self {
             Refusal::Line { line, .. } | Refusal::TextGoesOn { line } => line,
             Refusal::OutOfRange { index } | Refusal::Indivisible { index } => index,
-            Refusal::Silent { fault } => fault,
+            Refusal::Silent { fault } | Refusal::Hidden { fault } => fault,
             Refusal::TextTooLong
             | Refusal::ShortBuffer
             | Refusal::WrongLength

@@ -31,7 +31,7 @@ use Rattle.search.specs.Sets.{four_of}
 use Rattle.search.specs.declared.LabelSet.{LabelSet}
 use Rattle.writing.specs.Writing.{placed, gather}
 use Rattle.writing.proofs.Writings.{length-placed, placed-more, placed-front, gather-length}
-use Rattle.planner.specs.PlanCall.{Verdict, refused, planned, searched, silent_first, verdict_of, working_numbers, plan_verdict, Planned, plan_numbers, planned_as, WorkKept}
+use Rattle.planner.specs.PlanCall.{Verdict, refused, planned, searched, silent_first, hidden_first, unless_fault, verdict_of, working_numbers, plan_verdict, Planned, plan_numbers, planned_as, WorkKept}
 use Rattle.search.proofs.SetsBySize.{kept-four}
 use Rattle.planner.proofs.PlanLaws.{kept}
 use Rattle.report_lines.specs.ReportLines.{plan_line, refused_line, label_line, fault_report_line, plan_lines, report_bytes}
@@ -117,12 +117,16 @@ searched-fitting p right (some labels) e =
 
 pub verdict-fitting : (p : Problem) → Proper p → LinesFit p (verdict_of p)
 unfolding verdict_of
-verdict-fitting p right = go (ltb (silent_first p) (length p.faulted)) refl
+verdict-fitting p right =
+    fault-fitting 13 (silent_first p) _ (lit≤ tt) (lit≤ tt)
+    (fault-fitting 16 (hidden_first p) _ (lit≤ tt) (lit≤ tt) (searched-fitting p right (signature_of p.sound p.faulted p.cap) refl))
   where
-    go : (t : Bool) → ltb (silent_first p) (length p.faulted) ≡ t
-        → LinesFit p (cond t (refused 13 (suc (silent_first p))) (searched (signature_of p.sound p.faulted p.cap)))
-    go true e = (lit≤ tt, lit≤ tt, omega (arith, ltb-true (silent_first p) (length p.faulted) e, right.faults-high))
-    go false e = searched-fitting p right (signature_of p.sound p.faulted p.cap) refl
+    fault-fitting : (number first : ℕ) (next : Verdict) → 1 ≤ number → number < 100 → LinesFit p next → LinesFit p (unless_fault number first (length p.faulted) next)
+    fault-fitting number first next low high fit = go (ltb first (length p.faulted)) refl
+      where
+        go : (t : Bool) → ltb first (length p.faulted) ≡ t → LinesFit p (cond t (refused number (suc first)) next)
+        go true e = (low, high, omega (arith, ltb-true first (length p.faulted) e, right.faults-high))
+        go false e = fit
 
 verdict-length : (p : Problem) (right : Proper p) (v : Verdict) → LinesFit p v → length (verdict_lines p v) ≤ 715
 verdict-length p right (refused number place) f = let l = refused-length number place f.1 f.2 in omega (arith, l)

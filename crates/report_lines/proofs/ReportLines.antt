@@ -24,7 +24,7 @@ use borrow.Author.Tests.{le-ltb, ltb-true, ltb-false}
 use Rattle.refusals.specs.declared.Flaw.{Flaw}
 use Rattle.refusals.specs.declared.Flaw.TheVariants.{Malformed, OutOfRange as ValueOutOfRange, ReadsAhead, NoSuchLine, NotRising, NotAMark, NotInputs}
 use Rattle.refusals.specs.declared.Refusal.{Refusal}
-use Rattle.refusals.specs.declared.Refusal.TheVariants.{TextTooLong, Line, TextGoesOn, ShortBuffer, WrongLength, OutOfRange, Indivisible, WrongArgument, Silent, NoSet}
+use Rattle.refusals.specs.declared.Refusal.TheVariants.{TextTooLong, Line, TextGoesOn, ShortBuffer, WrongLength, OutOfRange, Indivisible, WrongArgument, Silent, Hidden, NoSet}
 use Rattle.refusals.specs.Refusals.{flaw_number, refusal_number, refusal_place}
 use Rattle.screen.specs.Answers.{Answer, Done}
 use Rattle.cover.specs.Cover.{covers, fault_rows}
@@ -69,6 +69,7 @@ refusal-number-small (OutOfRange index) = omega arith
 refusal-number-small (Indivisible index) = omega arith
 refusal-number-small WrongArgument = omega arith
 refusal-number-small (Silent fault) = omega arith
+refusal-number-small (Hidden fault) = omega arith
 refusal-number-small NoSet = omega arith
 
 pub refused-length : (number place : ℕ) → number < 100 → place < 1000 → length (refused_line number place) ≤ 15

@@ -18,7 +18,7 @@ use Rattle.refusals.specs.Refusals.{flaw_number, refusal_number, refusal_place}
 use Rattle.refusals.specs.declared.Flaw.{Flaw}
 use Rattle.refusals.specs.declared.Flaw.TheVariants.{Malformed, OutOfRange as ValueOutOfRange, ReadsAhead, NoSuchLine, NotRising, NotAMark, NotInputs}
 use Rattle.refusals.specs.declared.Refusal.{Refusal}
-use Rattle.refusals.specs.declared.Refusal.TheVariants.{TextTooLong, Line, TextGoesOn, ShortBuffer, WrongLength, OutOfRange, Indivisible, WrongArgument, Silent, NoSet}
+use Rattle.refusals.specs.declared.Refusal.TheVariants.{TextTooLong, Line, TextGoesOn, ShortBuffer, WrongLength, OutOfRange, Indivisible, WrongArgument, Silent, Hidden, NoSet}
 use Rattle.text.specs.Text.{before, after, line_end}
 use Rattle.fields.specs.Fields.{unless}
 use Rattle.sections.specs.Sections.{Read, items, line_refused, line_refusal, lines_of, FirstLine, NoLine}
@@ -42,6 +42,7 @@ refusal-numbered (OutOfRange index) e = omega arith
 refusal-numbered (Indivisible index) e = omega arith
 refusal-numbered WrongArgument e = omega arith
 refusal-numbered (Silent fault) e = omega arith
+refusal-numbered (Hidden fault) e = omega arith
 refusal-numbered NoSet e = omega arith
 
 -- the number of a line by its own tests, and of one that is missing

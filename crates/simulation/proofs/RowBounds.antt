@@ -20,7 +20,7 @@ use Rattle.netlist.specs.Circuits.{Netlist}
 use Rattle.netlist.specs.WellFormed.{WellFormed}
 use Rattle.statements.specs.Items.{no_output}
 use Rattle.statements.specs.Items.{Fault}
-use Rattle.simulation.specs.Rows.{weighed, output_term, line_values, row_value, rows_of, reads}
+use Rattle.simulation.specs.Rows.{weighed, output_value, output_term, row_value, rows_of}
 
 pub weighed-le : (B : ℕ) (shows : Bool) (z : ℤ) → nat_abs z ≤ B → nat_abs (weighed shows z) ≤ B
 weighed-le B true z h = h
@@ -34,8 +34,8 @@ pub row_within : (B : ℕ) (n : Netlist) (f : Fault) (x : ℕ) → ((k : ℕ) �
     → nat_abs (row_value n f x) ≤ length n.outputs * B
 unfolding row_value
 row_within B n f x h =
-    nat_abs-sum B (length n.outputs) (output_term (line_values n f x) n.outputs)
-    (λ k l. weighed-le B (reads (line_values n f x) (get_or n.outputs k no_output).line) (get_or n.outputs k no_output).weight (h k l))
+    nat_abs-sum B (length n.outputs) (output_term n f x)
+    (λ k l. weighed-le B (output_value n f x k) (get_or n.outputs k no_output).weight (h k l))
 
 pub rows-within : (B : ℕ) (n : Netlist) (f : Fault) → length n.outputs ≤ 4 → ((k : ℕ) → k < length n.outputs → nat_abs (get_or n.outputs k no_output).weight ≤ B)
     → Within (4 * B) (rows_of n f)

@@ -1,8 +1,8 @@
 -- The value of a row as the code adds it up, and the rows as it writes them:
 --   sum_room, sum_more, sum-small    a loop that adds up terms within 32,768: one turn
---   row_of, rows-read      the sum of what the code reads is the row's value; so are all of them
+--   rows-read, own_rows    the sums of what the code reads are the rows' values by the outputs given; by its own, they are the circuit's rows
 --   row-count-few               there are at most 256 rows
-use mathlib.Core.Path.{◌≡◌, sym, ap, ◌∙◌, subst}
+use mathlib.Core.Path.{◌≡◌, refl, sym, ap, ◌∙◌, subst}
 use mathlib.Core.Bool.{Bool}
 use mathlib.Core.List.{List}
 use Prim.Native.Nat.{ℕ, ◌+◌, ◌*◌, ◌^◌, ◌≤◌, ◌<◌}
@@ -23,8 +23,9 @@ use Rattle.netlist.specs.Circuits.{Netlist}
 use Rattle.netlist.specs.WellFormed.{WellFormed}
 use Rattle.statements.specs.Items.{no_output}
 use Rattle.statements.specs.Items.{Fault}
-use Rattle.simulation.specs.Rows.{output_term, line_values, row_value, rows_of}
-use Rattle.simulation.specs.Steps.{Columns, read_term, read_sum}
+use Rattle.statements.specs.declared.Output.{Output}
+use Rattle.simulation.specs.Rows.{line_values, row_value, rows_of}
+use Rattle.simulation.specs.Steps.{Columns, read_term, read_sum, term_by, value_by, values_by}
 use Rattle.simulation.proofs.Columns.{slot-shows}
 use Rattle.simulation.proofs.LineValues.{lines-few}
 
@@ -40,17 +41,21 @@ module _ (t : ℕ → ℤ) (k : ℕ) (z : ℤ) where
     pub sum-small : z ≡ t k → nat_abs (sum_to (k + 1) t) ≤ (k + 1) * 32768
     sum-small e = subst (λ (y : ℤ). nat_abs y ≤ (k + 1) * 32768) (sum_more e) (omega (arith, nat_abs-add (sum_to k t) z))
 
-pub row_of : (c : Netlist) (f : Fault) (n x : ℕ) {values : List Bool} → WellFormed c → x < n → Columns values n (line_values c f) → read_sum values c.outputs x ≡ row_value c f x
-unfolding read_sum row_value
-row_of c f n x {values} w h are =
-    sum-ext (length c.outputs) (read_term values c.outputs x) (output_term (line_values c f x) c.outputs)
-    (λ k l. rw (slot-shows n (line_values c f) are (get_or c.outputs k no_output).line x h (lines-few c f x w)))
+-- whatever the outputs, what is read of the columns is the value by the line values
+module _ (c : Netlist) (f : Fault) (n : ℕ) {values : List Bool} (w : WellFormed c) (are : Columns values n (line_values c f)) (outputs : List Output) where
+  row_of : (x : ℕ) → x < n → read_sum values outputs x ≡ values_by outputs c f x
+  unfolding read_sum value_by
+  row_of x h =
+      sum-ext (length outputs) (read_term values outputs x) (term_by outputs (line_values c f x))
+      (λ k l. rw (slot-shows n (line_values c f) are (get_or outputs k no_output).line x h (lines-few c f x w)))
 
--- what a loop that writes row x at x has written at its end
-pub rows-read : (c : Netlist) (f : Fault) (n : ℕ) {values : List Bool} → WellFormed c → n ≡ 2 ^ c.inputs → Columns values n (line_values c f) → tab n (read_sum values c.outputs) ≡ rows_of c f
-unfolding rows_of
-rows-read c f n {values} w e are =
-    tab-ext n (read_sum values c.outputs) (row_value c f) (λ x h. row_of c f n x w h are) ∙ ap (λ (k : ℕ). tab k (row_value c f)) e
+  -- what a loop that writes row x at x has written at its end
+  pub rows-read : n ≡ 2 ^ c.inputs → tab n (read_sum values outputs) ≡ tab (2 ^ c.inputs) (values_by outputs c f)
+  rows-read e = tab-ext n (read_sum values outputs) (values_by outputs c f) row_of ∙ ap (λ (k : ℕ). tab k (values_by outputs c f)) e
+
+pub own_rows : (c : Netlist) (f : Fault) → tab (2 ^ c.inputs) (values_by c.outputs c f) ≡ rows_of c f
+unfolding value_by rows_of row_value
+own_rows c f = refl
 
 pub row-count-few : (c : Netlist) → WellFormed c → 2 ^ c.inputs ≤ 256
 row-count-few c w = pow_mono w.inputs-high

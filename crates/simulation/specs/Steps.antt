@@ -3,15 +3,19 @@
 --   row_bit_of, source_of   which bit of a row an input is; which bits an input gets under a bridge
 --   slot_of               where a line is read in them: no circuit has a line 57
 --   read_term, read_sum    an output's term and a row's value, as they are read there
-use Rattle.std.specs.Prelude.{ℕ, ◌-◌, ◌<◌, Bool, cond, List, ◌≡◌, ltb, ℤ, get_or, length}
+--   value_by              a row's value by its line values, with any outputs
+--   with_bits              outputs with the weights 1, 2, 4, 8 in place of their own
+use Rattle.std.specs.Prelude.{ℕ, ◌-◌, ◌<◌, ◌^◌, Bool, cond, List, ◌≡◌, ltb, ℤ, pos, get_or, length}
 use Rattle.integer.specs.Sum.{sum_to}
+use Rattle.integer.specs.Tab.{tab}
+use Rattle.netlist.specs.Circuits.{Netlist}
 use Rattle.statements.specs.Items.{no_output}
 use Rattle.statements.specs.declared.Bridge.{Bridge}
 use Rattle.statements.specs.Items.{Fault}
 use Rattle.statements.specs.declared.Output.{Output}
 use Rattle.columns.specs.Shown.{joins}
 use Rattle.columns.specs.Steps.{shown_at}
-use Rattle.simulation.specs.Rows.{input_values, reads, weighed}
+use Rattle.simulation.specs.Rows.{input_values, reads, line_values, weighed}
 
 -- line values of the row x are `lines x`; a line after the last shows 0
 pub record Columns (values : List Bool) (n : ℕ) (lines : ℕ → List Bool) : Type 0 where
@@ -36,3 +40,18 @@ read_term values outputs x k = weighed (shown_at values (slot_of (get_or outputs
 
 unfoldable pub read_sum : List Bool → List Output → ℕ → ℤ
 read_sum values outputs x = sum_to (length outputs) (read_term values outputs x)
+
+abbrev pub term_by : List Output → List Bool → ℕ → ℤ
+term_by outputs l k = weighed (reads l (get_or outputs k no_output).line) (get_or outputs k no_output).weight
+
+unfoldable pub value_by : List Output → List Bool → ℤ
+value_by outputs l = sum_to (length outputs) (term_by outputs l)
+
+abbrev pub values_by : List Output → Netlist → Fault → ℕ → ℤ
+values_by outputs n f x = value_by outputs (line_values n f x)
+
+abbrev pub with_bit_at : List Output → ℕ → Output
+with_bit_at outputs k = record { line = (get_or outputs k no_output).line; weight = pos (2 ^ k) }
+
+unfoldable pub with_bits : List Output → List Output
+with_bits outputs = tab (length outputs) (with_bit_at outputs)

@@ -1,11 +1,11 @@
-// Simulation of a circuit: the rows of its outputs, sound or under a fault. Where a circuit comes from and what is done with its rows is the
-// business of other crates.
+// Simulation of a circuit: its rows and what its outputs show on them, sound or under a fault. Where a circuit comes from and what is done with
+// its rows is the business of other crates.
 #![tactic(auto)]
 
 ghost use Rattle.std.specs.Prelude.{◌≡◌, ◌+◌, ◌≤◌, ◌<◌, ◌^◌, nat_abs, length};
 ghost use Rattle.integer.specs.Tab.{tab};
-ghost use Rattle.simulation.specs.Rows.{line_values, weighed, rows_of};
-ghost use Rattle.simulation.specs.Steps.{Columns, input_lines, row_bit_of, source_of, slot_of, read_sum};
+ghost use Rattle.simulation.specs.Rows.{line_values, weighed, rows_of, outputs_of};
+ghost use Rattle.simulation.specs.Steps.{Columns, input_lines, row_bit_of, source_of, slot_of, read_sum, values_by, with_bits};
 
 use columns::{Column, Seen, Values};
 use netlist::Circuit;
@@ -106,14 +106,50 @@ fn row_values(values: &Values, outputs: &[Output], out: &mut [i32])
     }
 }
 
-// The rows of the circuit under a fault: a column for each line, one value a row, and each row's value from them.
-pub fn rows(c: &Circuit, f: Fault, out: &mut [i32])
-    requires { length out.old ≡ 2 ^ c.now.inputs }
-    ensures { out.new ≡ rows_of c.now f }
+// Each row's value by the outputs given: a column for each line, one value a row, and the values from them.
+fn rows_by(c: &Circuit, f: Fault, outputs: &[Output], out: &mut [i32])
+    requires { (length outputs.now ≤ 4) × (length out.old ≡ 2 ^ c.now.inputs) }
+    ensures { out.new ≡ tab (2 ^ c.now.inputs) (values_by outputs.now c.now f) }
 {
     let n = out.len();
     let mut values = [false; 14848];
     input_columns(&mut values, f, c.inputs(), n);
     gate_columns(&mut values, c, f, n);
-    row_values(&values, c.outputs(), out);
+    row_values(&values, outputs, out);
+}
+
+// The rows of the circuit under a fault.
+pub fn rows(c: &Circuit, f: Fault, out: &mut [i32])
+    requires { length out.old ≡ 2 ^ c.now.inputs }
+    ensures { out.new ≡ rows_of c.now f }
+{
+    rows_by(c, f, c.outputs(), out);
+}
+
+// With these for weights a row's value has bit k exactly where output k shows 1.
+const BITS: [i16; 4] = [1, 2, 4, 8];
+
+// The outputs with those weights in place of their own.
+fn with_bits(outputs: &[Output], out: &mut [Output])
+    requires { (length outputs.now ≤ 4) × (length out.old ≡ length outputs.now) }
+    ensures { out.new ≡ with_bits outputs.now }
+{
+    for (k, output) in out.iter_mut().enumerate() {
+        *output = Output {
+            line: outputs[k].line,
+            weight: BITS[k],
+        };
+    }
+}
+
+// What the outputs show on each row under a fault, as one number with bit k for output k.
+pub fn outputs(c: &Circuit, f: Fault, out: &mut [i32])
+    requires { length out.old ≡ 2 ^ c.now.inputs }
+    ensures { out.new ≡ outputs_of c.now f }
+{
+    let outputs = c.outputs();
+    let mut bits = [Output::NONE; 4];
+    let bits = &mut bits[..outputs.len()];
+    with_bits(outputs, bits);
+    rows_by(c, f, bits, out);
 }

@@ -29,10 +29,12 @@ fn plan_numbers(plan: Result<LabelSet, Refusal>) -> [i32; 7] {
     ]
 }
 
-// How many working numbers may have changed: those of a plan, 13 and 14.
+// How many working numbers may have changed: those of a plan, 13, 16 and 14.
 fn free_of(plan: &Result<LabelSet, Refusal>) -> usize {
     match plan {
-        Ok(_) | Err(Refusal::Silent { .. } | Refusal::NoSet) => planner::WORKING_NUMBERS,
+        Ok(_) | Err(Refusal::Silent { .. } | Refusal::Hidden { .. } | Refusal::NoSet) => {
+            planner::WORKING_NUMBERS
+        }
         Err(_) => 0,
     }
 }
@@ -65,6 +67,7 @@ fn free_by(due: &[u8]) -> usize {
     let refusal = text::field(due, 1);
     if text::same(text::field(due, 0), b"plan")
         || text::same(refusal, b"13")
+        || text::same(refusal, b"16")
         || text::same(refusal, b"14")
     {
         planner::WORKING_NUMBERS

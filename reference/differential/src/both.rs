@@ -5,7 +5,7 @@ use crate::calls::{self, assert_refused, library_circuit, library_plan, refused}
 use crate::lent::{surround, Shown};
 use crate::library::{self, Signature};
 use crate::outcomes::Outcomes;
-use second::circuits::{with_line, Damage, Draft};
+use second::circuits::{with_line, Damage, Draft, Sizes};
 use second::devices;
 use second::lines::TEXT_LIMIT;
 use second::plan::{CAP_LIMIT, WORKING_NUMBERS};
@@ -18,14 +18,15 @@ use std::collections::BTreeSet;
 const NO_FAULTS: [u32; 7] = [33, 256, 257, 65_536, 65_537, 1 << 31, u32::MAX];
 
 /// The noise for lent buffers, how often each outcome and each size of a plan
-/// came, at which lines texts were refused, and which fault was the first silent
-/// one.
+/// came, at which lines texts were refused, and which faults were the first silent
+/// and the first hidden one.
 pub struct Both {
     pub random: Random,
     pub outcomes: Outcomes,
     pub sizes: [usize; CAP_LIMIT + 1],
     pub places: BTreeSet<usize>,
     pub silent: BTreeSet<usize>,
+    pub hidden: BTreeSet<usize>,
 }
 
 impl Both {
@@ -36,6 +37,7 @@ impl Both {
             sizes: [0; CAP_LIMIT + 1],
             places: BTreeSet::new(),
             silent: BTreeSet::new(),
+            hidden: BTreeSet::new(),
         }
     }
 
@@ -68,7 +70,7 @@ impl Both {
     }
 
     /// Every call on twenty of the longest texts that there are, of this length,
-    /// with their silent faults and without.
+    /// with all of their faults and with those that change a row's value.
     pub fn longest_texts(&mut self, largest: fn(&mut Random) -> Draft, length: usize) {
         let mut changing = 0;
         for round in 0..20 {
@@ -77,7 +79,7 @@ impl Both {
             assert_eq!(text.len(), length);
             changing += self.every_fault(&draft);
             self.plan_and_report(&text);
-            let planned = draft.without_silent().expect("a fault that changes rows");
+            let planned = draft.only_changing().expect("a fault that changes rows");
             // Without a plan the second implementation tries every set.
             self.plan_and_report(&planned.with_cap(1 + round % 2).text());
             let found = calls::reading(&mut self.random, &text, round as u32, 0);
@@ -92,7 +94,8 @@ impl Both {
         assert!(changing > 300, "faults that change rows: {changing}");
     }
 
-    /// Plans of drawn circuits without silent faults, of every size and none.
+    /// Plans of drawn circuits without silent and hidden faults, of every size and
+    /// none.
     pub fn plans_without_silent_faults(&mut self, draw: fn(&mut Random, usize) -> Draft) {
         for round in 0..600 {
             // Without a plan the second implementation tries every set.
@@ -187,6 +190,33 @@ impl Both {
             let found = self.circuit(&text, fault, length);
             assert_eq!(found, (0, 0), "fault {fault} of {}", Shown(&text));
             changing += usize::from(device.rows(fault) != device.rows(0));
+        }
+        changing
+    }
+
+    /// Every fault of drawn circuits of every count of inputs, from `least` on, with
+    /// every count of gates; every count of outputs comes with every count of inputs.
+    /// `each` gets every circuit afterwards. Gives how many faults change rows.
+    pub fn every_size(
+        &mut self,
+        least: usize,
+        draw: impl Fn(&mut Random, Sizes) -> Draft,
+        mut each: impl FnMut(&mut Both, &Draft),
+    ) -> usize {
+        let mut changing = 0;
+        for inputs in least..=8 {
+            for gates in 0..=48 {
+                let drawn = Sizes::draw(&mut self.random);
+                let sizes = Sizes {
+                    inputs,
+                    gates,
+                    outputs: 1 + gates % 4,
+                    ..drawn
+                };
+                let draft = draw(&mut self.random, sizes);
+                changing += self.every_fault(&draft);
+                each(self, &draft);
+            }
         }
         changing
     }
@@ -319,6 +349,9 @@ impl Both {
             13 => {
                 self.silent.insert(found.place);
             }
+            16 => {
+                self.hidden.insert(found.place);
+            }
             _ => {}
         }
         found
@@ -393,7 +426,7 @@ impl Both {
     pub fn working_buffers(&mut self, text: &[u8], number: u32) {
         for working in [0, 1, 2_304, 4_607, 4_608, 4_609, 5_000, 9_216] {
             let due = match number {
-                0 | 13 | 14 if working < WORKING_NUMBERS => 8,
+                0 | 13 | 14 | 16 if working < WORKING_NUMBERS => 8,
                 _ => number,
             };
             let found = self.plan_with(text, working);

@@ -59,7 +59,7 @@ pub fn refused(number: u32, place: usize) -> Signature {
 /// How many working numbers may have been used.
 fn used(number: u32) -> usize {
     match number {
-        0 | 13 | 14 => WORKING_NUMBERS,
+        0 | 13 | 14 | 16 => WORKING_NUMBERS,
         _ => 0,
     }
 }

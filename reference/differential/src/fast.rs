@@ -3,7 +3,7 @@
 //! the calls on texts with that transform; and the readings, summed and divided
 //! in binary64.
 
-use second::devices;
+use second::devices::{self, Device};
 use second::netlist;
 use second::plan::{order, CAP_LIMIT, WORKING_NUMBERS};
 use second::reading::{test_fault, test_fixture};
@@ -79,6 +79,18 @@ impl Search {
     }
 }
 
+/// Where no row's value changes under fault `first`, and does under each before it:
+/// 13 for the first silent fault, else 16 for this one.
+fn refuse_unchanged<T>(device: &Device, first: usize) -> Result<T, Refusal> {
+    let sound = device.shown(0)?;
+    for fault in first..=device.faults().len() {
+        if device.shown(fault as u32)? == sound {
+            return refuse(13, fault);
+        }
+    }
+    refuse(16, first)
+}
+
 /// A plan, the sound rows, and for each fault the spectrum of what it changes
 /// in them, one after the other.
 struct Planned {
@@ -98,7 +110,7 @@ fn planned(text: &[u8], working: usize) -> Result<Planned, Refusal> {
         let faulted = device.rows(fault as u32)?;
         changes.extend(faulted.iter().zip(&rows).map(|(new, old)| new - old));
         if changes[start..].iter().all(|&change| change == 0) {
-            return refuse(13, fault);
+            return refuse_unchanged(&device, fault);
         }
         transform(&mut changes[start..]);
     }
@@ -190,7 +202,9 @@ mod tests {
     use second::circuits::{largest_report, worst_search, Draft, Sizes, Sketch};
     use second::random::Random;
     use second::reading::Reading;
-    use second::{bridge_texts, plan, reading, report, table_texts, walsh, wide_texts};
+    use second::{
+        bridge_texts, hidden_texts, plan, reading, report, table_texts, walsh, wide_texts,
+    };
 
     #[test]
     fn equals_the_direct_sums() {
@@ -252,14 +266,15 @@ mod tests {
         for round in 0..1200 {
             let inputs = 1 + round % 7;
             let cap = random.pick(&[1, 2, 3, 4, 4, 4]);
-            let draft = match round % 5 {
+            let draft = match round % 6 {
                 0 => table_texts::draw_blocks(&mut random, inputs).with_cap(cap),
                 1 => bridge_texts::draw_changing(&mut random, inputs).with_cap(cap),
                 2 => wide_texts::draw_changing(&mut random, inputs).with_cap(cap),
+                3 => hidden_texts::draw_outcomes(&mut random, inputs),
                 _ => Sketch::draw(&mut random, inputs).draft(cap),
             };
-            let draft = match draft.without_silent() {
-                Some(draft) if !random.once_in(8) => draft,
+            let draft = match draft.only_changing() {
+                Some(draft) if round % 6 != 3 && !random.once_in(8) => draft,
                 _ => draft,
             };
             let mut text = draft.text();
@@ -275,7 +290,8 @@ mod tests {
             outcomes.note(answer(&due).number);
             sizes[due.map_or(0, |labels| labels.len())] += 1;
         }
-        outcomes.assert_seen(&[(0, 500), (2, 20), (8, 20), (13, 50), (14, 50)]);
+        let refused = [(2, 20), (8, 20), (13, 50), (14, 50), (16, 50)];
+        outcomes.assert_seen(&[&[(0, 500)], &refused[..]].concat());
         assert!(sizes.iter().all(|&count| count >= 30), "{sizes:?}");
         let text = worst_search().text();
         let due = plan::plan(&text, WORKING_NUMBERS);

@@ -180,7 +180,7 @@ fn tables_of_circuits() {
         let inputs = 2 + round % 7;
         let drawn = table_texts::draw_circuit(&mut both.random, inputs);
         let drawn = with_bridges(&mut both.random, &drawn);
-        let circuit = drawn.without_silent().unwrap_or(drawn);
+        let circuit = drawn.only_changing().unwrap_or(drawn);
         both.table_of_circuit(&circuit);
     }
     both.outcomes.assert_seen(&[(0, 400), (13, 10), (14, 0)]);
@@ -191,20 +191,7 @@ fn tables_of_circuits() {
 #[test]
 fn circuits_of_every_size() {
     let mut both = Both::new(SEED + 10);
-    let mut changing = 0;
-    for inputs in 2..=8 {
-        for gates in 0..=48 {
-            let drawn = Sizes::draw(&mut both.random);
-            let sizes = Sizes {
-                inputs,
-                gates,
-                outputs: 1 + gates % 4,
-                ..drawn
-            };
-            let draft = draw_circuit(&mut both.random, sizes);
-            changing += both.every_fault(&draft);
-        }
-    }
+    let mut changing = both.every_size(2, draw_circuit, |_, _| ());
     for _ in 0..20 {
         let draft = draw_circuit(&mut both.random, Sizes::LARGEST);
         changing += both.every_fault(&draft);

@@ -213,9 +213,12 @@ fn circuits_of_every_size() {
         }
     }
     both.outcomes.assert_seen(&[(0, 24_000)]);
-    let silent = both.outcomes.seen(0) - changing;
+    let unchanged = both.outcomes.seen(0) - changing;
     assert!(changing > 10_000, "faults that change rows: {changing}");
-    assert!(silent > 1000, "silent faults and sound circuits: {silent}");
+    assert!(
+        unchanged > 1000,
+        "faults that change no row, and sound circuits: {unchanged}"
+    );
 }
 
 #[test]

@@ -13,6 +13,7 @@ use second::circuits::{
     SILENT_FAULT, TWO_OUTPUTS,
 };
 use second::devices;
+use second::hidden_texts::{no_set, EXCHANGED_OUTPUTS};
 use second::lines::TEXT_LIMIT;
 use second::plan::{Spectra, CAP_LIMIT, WORKING_NUMBERS};
 use second::signed_texts::{self, with_signs};
@@ -21,22 +22,22 @@ use second::wide_texts;
 
 const SEED: u64 = 0x504c_414e_5300_0000;
 
-/// Circuits of random parities without silent faults.
+/// Circuits of random parities without silent and hidden faults.
 fn sketch(both: &mut Both, inputs: usize, cap: usize) -> Draft {
     loop {
         let draft = Sketch::draw(&mut both.random, inputs).draft(cap);
-        if let Some(draft) = draft.without_silent() {
+        if let Some(draft) = draft.only_changing() {
             return draft;
         }
     }
 }
 
-/// A drawn circuit without silent faults.
+/// A drawn circuit without silent and hidden faults.
 fn changing_draft(both: &mut Both, inputs: usize) -> Draft {
     loop {
         let drawn = Sizes::draw(&mut both.random);
         let draft = Draft::draw(&mut both.random, Sizes { inputs, ..drawn });
-        if let Some(draft) = draft.without_silent() {
+        if let Some(draft) = draft.only_changing() {
             return draft;
         }
     }
@@ -202,7 +203,9 @@ fn circuits_as_they_are_drawn() {
         both.plan(&text);
         both.report(&text);
     }
-    both.outcomes.assert_seen(&[(0, 200), (13, 1500), (14, 0)]);
+    // Drawn weights hide next to nothing.
+    both.outcomes
+        .assert_seen(&[(0, 200), (13, 1500), (14, 0), (16, 0)]);
     assert!(both.silent.len() > 10, "silent: {:?}", both.silent);
 }
 
@@ -493,31 +496,32 @@ fn silent_faults_at_each_place() {
     assert!(both.silent.iter().copied().eq(1..=32), "{:?}", both.silent);
 }
 
-#[test]
-fn silent_goes_before_no_set() {
-    // Five faults of one label each with a cap of four, and a silent one.
-    let mut both = Both::new(SEED + 31);
+/// Five faults of one label each with a cap of four, and one more, which decides at
+/// each place; `which` is 0 for a hidden one, two of the stuck lines at once, and 1
+/// for a silent one, a line that nothing reads.
+fn assert_goes_before_no_set(subject: u64, which: usize, number: u32) {
+    let mut both = Both::new(SEED + subject);
     for inputs in 3..=5 {
-        let labels = near_labels(&mut both.random, inputs, 5);
-        let draft = Sketch::paired(inputs, &labels, 2).draft(4);
-        let stuck: Vec<String> = draft
-            .faults()
-            .iter()
-            .map(|fault| fault[1].clone())
-            .collect();
-        // Two of the lines at once leave the sum as it was.
-        let silent: Vec<String> = ["fault", &stuck[0], "1", &stuck[1], "1"]
-            .map(String::from)
-            .into();
+        let (draft, more) = no_set(&mut both.random, inputs);
         assert_eq!(both.plan(&draft.text()), refused(14, 0));
         for place in 0..=5 {
             let mut faults = draft.faults().to_vec();
-            faults.insert(place, silent.clone());
+            faults.insert(place, more[which].clone());
             let text = draft.with_faults(&faults, 4).text();
-            assert_eq!(both.plan(&text), refused(13, place + 1));
+            assert_eq!(both.plan(&text), refused(number, place + 1));
         }
     }
-    both.outcomes.assert_seen(&[(13, 18), (14, 3)]);
+    both.outcomes.assert_seen(&[(number, 18), (14, 3)]);
+}
+
+#[test]
+fn hidden_goes_before_no_set() {
+    assert_goes_before_no_set(31, 0, 16);
+}
+
+#[test]
+fn silent_goes_before_no_set() {
+    assert_goes_before_no_set(36, 1, 13);
 }
 
 /// A text for each outcome but 8.
@@ -532,6 +536,7 @@ fn texts_by_outcome() -> Vec<(Vec<u8>, u32)> {
         ([listing, b"\n"].concat(), 7),
         (SILENT_FAULT.as_bytes().to_vec(), 13),
         (TWO_OUTPUTS.as_bytes().to_vec(), 14),
+        (EXCHANGED_OUTPUTS.as_bytes().to_vec(), 16),
     ];
     for (place, line, number) in [
         (1, "circuit,9,4,1,2,2", 3),
@@ -553,7 +558,7 @@ fn working_buffers_short_exact_and_longer() {
     for (text, number) in texts_by_outcome() {
         both.working_buffers(&text, number);
     }
-    let least: Vec<(u32, usize)> = (0..=8).chain(13..=14).map(|n| (n, 4)).collect();
+    let least: Vec<(u32, usize)> = (0..=8).chain([13, 14, 16]).map(|n| (n, 4)).collect();
     both.outcomes.assert_seen(&least);
 }
 
@@ -640,7 +645,7 @@ fn buffers_of_the_report() {
     for (text, number) in texts_by_outcome() {
         both.report_buffers(&text, number);
     }
-    let least: Vec<(u32, usize)> = (0..=8).chain(13..=14).map(|n| (n, 12)).collect();
+    let least: Vec<(u32, usize)> = (0..=8).chain([13, 14, 16]).map(|n| (n, 12)).collect();
     both.outcomes.assert_seen(&least);
 }
 

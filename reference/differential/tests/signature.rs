@@ -7,6 +7,10 @@ use second::bridge_texts::{
     SILENT_BRIDGE,
 };
 use second::circuits::{with_line, Damage, Draft, Sizes, DAMAGES, LISTING};
+use second::hidden_texts::{
+    draw_outcomes, largest as largest_hidden, EXCHANGED_OUTPUTS, OPPOSITE_WEIGHTS,
+    SILENT_BEHIND_HIDDEN,
+};
 use second::lines::TEXT_LIMIT;
 use second::plan::WORKING_NUMBERS;
 use second::random::Random;
@@ -168,7 +172,7 @@ fn circuits_of_signed_weights() {
             SUBTRACTED_INPUT,
             "plan,1\nlabel,0,-15\nfault,1,0,0\nfault,2,0,-30\n",
         ),
-        (CANCELLED_FAULT, "refused,13,1\n"),
+        (CANCELLED_FAULT, "refused,16,1\n"),
     ] {
         let written = run(&[text.as_bytes()], Duration::ZERO);
         assert_eq!(String::from_utf8_lossy(&written), due, "{text}");
@@ -185,6 +189,24 @@ fn circuits_of_signed_weights() {
         let damage = &OUTPUT_DAMAGES[round % OUTPUT_DAMAGES.len()];
         let text = (damage.apply)(&mut random, &draft);
         assert_reports_at_once(damage.name, &text);
+    }
+}
+
+#[test]
+fn circuits_in_which_weights_hide() {
+    for (text, due) in [
+        (EXCHANGED_OUTPUTS, "refused,16,1\n"),
+        (OPPOSITE_WEIGHTS, "refused,16,1\n"),
+        (SILENT_BEHIND_HIDDEN, "refused,13,2\n"),
+    ] {
+        let written = run(&[text.as_bytes()], Duration::ZERO);
+        assert_eq!(String::from_utf8_lossy(&written), due, "{text}");
+    }
+    let mut random = Random::new(SEED + 5);
+    assert_reports_at_once("largest", &largest_hidden(&mut random).text());
+    for round in 0..48 {
+        let draft = draw_outcomes(&mut random, 1 + round % 6);
+        assert_reports_at_once("drawn", &draft.text());
     }
 }
 

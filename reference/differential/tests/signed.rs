@@ -13,6 +13,7 @@ use differential::library;
 use differential::outcomes::written;
 use second::bridge_texts::with_bridges;
 use second::circuits::{with_line, Damage, Draft, Sizes, Sketch, DAMAGES};
+use second::hidden_texts::{told_apart, SILENT_BEHIND_HIDDEN};
 use second::netlist::{self, Netlist, CIRCUIT_LIMIT, CIRCUIT_ROW_LIMIT};
 use second::random::Random;
 use second::signed_texts::{
@@ -150,8 +151,8 @@ fn examples_of_the_change_request() {
     assert_eq!(library_circuit_rows(text, 0, 4), [0, 0, -1, -1]);
     assert_eq!(library_circuit_rows(text, 1, 4), [0, 0, -1, -1]);
     assert_eq!(library_circuit_rows(text, 2, 4), [0, 3, -1, 2]);
-    assert_eq!(library_plan(text), refused(13, 1));
-    assert_eq!(library_report(text), "refused,13,1\n");
+    assert_eq!(library_plan(text), refused(16, 1));
+    assert_eq!(library_report(text), "refused,16,1\n");
 }
 
 /// x_i of weight w: w 2^(N-1) at label 0, its negative at label 2^(i-1).
@@ -226,7 +227,7 @@ fn negative(bits: Bits) -> Bits {
 #[test]
 fn all_weights_negated() {
     let mut random = Random::new(SEED + 2);
-    let (mut rows, mut readings, mut plans) = ([0; 3], [0; 3], [0; 15]);
+    let (mut rows, mut readings, mut plans) = ([0; 3], [0; 3], [0; 17]);
     for round in 0..500 {
         let inputs = 1 + round % 8;
         let draft = match round % 4 {
@@ -263,23 +264,38 @@ fn all_weights_negated() {
     assert!(rows.iter().all(|&count| count > 4000), "{rows:?}");
     assert!(readings.iter().all(|&count| count > 2000), "{readings:?}");
     assert!(plans[0] > 150 && plans[13] > 150, "{plans:?}");
+    assert!(plans[16] > 0, "{plans:?}");
 }
 
 /// Two outputs on one line that cancel out, once or twice: nothing is left, and
-/// every fault is silent.
+/// every fault is silent or hidden. Which one it is the coefficients of the same
+/// outputs say with weights that tell them apart.
 #[test]
 fn weights_that_cancel_out() {
     let mut random = Random::new(SEED + 3);
-    let mut outputs = [0; 5];
+    let (mut outputs, mut refusals) = ([0; 5], [0; 17]);
     for round in 0..200 {
         let inputs = 1 + round % 8;
         let draft = cancelled(&draw_mixed(&mut random, round / 8, inputs));
+        // Of many faults one is mostly silent.
+        let faults = if round % 3 == 0 {
+            1
+        } else {
+            draft.sizes.faults
+        };
+        let draft = draft.with_faults(&draft.faults()[..faults], 1);
         for spectrum in library_spectra(&draft) {
             assert_eq!(spectrum, vec![0; 1 << inputs], "{draft:?}");
         }
         let text = draft.text();
-        assert_eq!(library_plan(&text), refused(13, 1), "{draft:?}");
-        assert_eq!(library_report(&text), "refused,13,1\n");
+        let apart = library_spectra(&told_apart(&draft));
+        let (sound, faulted) = apart.split_first().expect("a sound circuit");
+        let silent = faulted.iter().position(|spectrum| spectrum == sound);
+        let (number, place) = silent.map_or((16, 1), |at| (13, at + 1));
+        assert_eq!(library_plan(&text), refused(number, place), "{draft:?}");
+        let due = format!("refused,{number},{place}\n");
+        assert_eq!(library_report(&text), due);
+        refusals[number as usize] += 1;
         assert_eq!(measured(&text, 0, 0), Measured::new(WEIGHTED, 0, Bits(0)));
         for fault in 1..=draft.sizes.faults as u32 {
             let (mask, values) = fixture(&mut random, inputs);
@@ -289,9 +305,12 @@ fn weights_that_cancel_out() {
         outputs[draft.sizes.outputs] += 1;
     }
     assert!(outputs[2] > 20 && outputs[4] > 20, "{outputs:?}");
-    // Each weight, on an input and on a gate's line.
+    let [silent, hidden] = [13, 16].map(|number| refusals[number]);
+    assert!(silent > 25 && hidden > 25, "{refusals:?}");
+    // Each weight, on an input, which the second fault leaves as it was, and on a
+    // gate's line, which the bridge does.
     for weight in every_weight() {
-        for line in [1, 3] {
+        for (line, silent) in [(1, 2), (3, 3)] {
             let text = format!(
                 "circuit,2,1,2,3,4\ngate,nand,1,2\noutput,{line},{weight}\noutput,{line},{}\n\
                  fault,1,0\nfault,3,1\nbridge,1,2\n",
@@ -300,7 +319,8 @@ fn weights_that_cancel_out() {
             for fault in 0..=3 {
                 assert_eq!(library_circuit(text.as_bytes(), fault, 4), [0; 4]);
             }
-            assert_eq!(library_plan(text.as_bytes()), refused(13, 1), "{text}");
+            let found = library_plan(text.as_bytes());
+            assert_eq!(found, refused(13, silent), "{text}");
         }
     }
 }
@@ -342,7 +362,7 @@ fn coefficients_and_readings_at_both_ends() {
         let text = with_weights(&draft, &[weight; 4]).text();
         due[0] = sum / 2;
         assert_eq!(library_circuit(&text, 0, 256), due);
-        assert_eq!(library_plan(&text), refused(13, 1));
+        assert_eq!(library_plan(&text), refused(16, 1));
         let text = with_weights(&draft, &[weight, weight, -weight, -weight]).text();
         (due[0], due[255]) = (0, -sum / 2);
         assert_eq!(library_circuit(&text, 0, 256), due);
@@ -510,33 +530,26 @@ fn cases_by_outputs_weights_and_masks() {
 
 // Good circuits.
 
+/// Bridges in every other count of gates.
+fn draw_half_bridged(random: &mut Random, sizes: Sizes) -> Draft {
+    let draft = draw(random, sizes);
+    match sizes.gates % 2 {
+        0 => draft,
+        _ => with_bridges(random, &draft),
+    }
+}
+
 #[test]
 fn circuits_of_every_size() {
     let mut both = Both::new(SEED + 10);
-    let (mut changing, mut rows, mut sums) = (0, [0; 3], [0; 3]);
-    for inputs in 1..=8 {
-        for gates in 0..=48 {
-            let drawn = Sizes::draw(&mut both.random);
-            let sizes = Sizes {
-                inputs,
-                gates,
-                // Every count of outputs comes with every count of inputs.
-                outputs: 1 + gates % 4,
-                ..drawn
-            };
-            let draft = draw(&mut both.random, sizes);
-            let draft = match gates % 2 {
-                0 => draft,
-                _ => with_bridges(&mut both.random, &draft),
-            };
-            changing += both.every_fault(&draft);
-            for fault in 0..=draft.sizes.faults as u32 {
-                let found = read(&draft).rows(fault).expect("a fault of the circuit");
-                add_signs(&mut rows, &found);
-                add_signs(&mut sums, &[found.iter().sum()]);
-            }
+    let (mut rows, mut sums) = ([0; 3], [0; 3]);
+    let changing = both.every_size(1, draw_half_bridged, |_, draft| {
+        for fault in 0..=draft.sizes.faults as u32 {
+            let found = read(draft).rows(fault).expect("a fault of the circuit");
+            add_signs(&mut rows, &found);
+            add_signs(&mut sums, &[found.iter().sum()]);
         }
-    }
+    });
     both.outcomes.assert_seen(&[(0, 6000)]);
     assert!(changing > 2000, "faults that change rows: {changing}");
     assert!(rows.iter().all(|&count| count > 50_000), "{rows:?}");
@@ -574,7 +587,7 @@ fn rows_at_both_ends_of_the_range() {
         let text = draft.text();
         both.every_fault(&draft);
         both.plan_and_report(&text);
-        if let Some(changing) = draft.without_silent() {
+        if let Some(changing) = draft.only_changing() {
             both.plan_and_report(&changing.text());
         }
         for fault in 1..=4 {
@@ -624,7 +637,8 @@ fn plans_of_drawn_circuits() {
         let text = draw_mixed(&mut both.random, round, 1 + round % 8).text();
         both.plan_and_report(&text);
     }
-    both.outcomes.assert_seen(&[(0, 60), (13, 400), (14, 0)]);
+    both.outcomes
+        .assert_seen(&[(0, 60), (13, 400), (14, 0), (16, 2)]);
     assert!(both.silent.len() > 8, "silent: {:?}", both.silent);
 }
 
@@ -633,10 +647,10 @@ fn plans_without_silent_faults() {
     Both::new(SEED + 15).plans_without_silent_faults(draw_changing);
 }
 
-/// A fault that raises two outputs is silent where the weights cancel out, and one
+/// A fault that raises two outputs is hidden where the weights cancel out, and one
 /// that raises the one and lowers the other where they are equal.
 #[test]
-fn a_sign_decides_whether_a_fault_is_silent() {
+fn a_sign_decides_whether_a_fault_is_hidden() {
     let mut both = Both::new(SEED + 16);
     for weight in every_weight() {
         for other in [weight, -weight] {
@@ -649,17 +663,17 @@ fn a_sign_decides_whether_a_fault_is_silent() {
             };
             let raised = text("fault,2,1\nfault,2,1,3,1\n", 3);
             let exchanged = text("fault,2,1\nfault,2,1,4,0\n", 4);
-            for (text, is_silent) in [(raised, other != weight), (exchanged, other == weight)] {
+            for (text, is_hidden) in [(raised, other != weight), (exchanged, other == weight)] {
                 let found = both.plan_and_report(text.as_bytes());
-                let due = match is_silent {
-                    true => refused(13, 2),
+                let due = match is_hidden {
+                    true => refused(16, 2),
                     false => of_labels(&[0]),
                 };
                 assert_eq!(found, due, "{text}");
             }
         }
     }
-    both.outcomes.assert_seen(&[(0, 120), (13, 120)]);
+    both.outcomes.assert_seen(&[(0, 120), (16, 120)]);
 }
 
 #[test]
@@ -668,7 +682,8 @@ fn buffers_of_the_plan_and_the_report() {
     let mut texts: Vec<(Vec<u8>, u32)> = vec![
         (SUBTRACTED_LISTING.as_bytes().to_vec(), 0),
         (SUBTRACTED_INPUT.as_bytes().to_vec(), 0),
-        (CANCELLED_FAULT.as_bytes().to_vec(), 13),
+        (CANCELLED_FAULT.as_bytes().to_vec(), 16),
+        (SILENT_BEHIND_HIDDEN.as_bytes().to_vec(), 13),
         (constant(8, &[-15; 4]).text(), 0),
     ];
     for (line, number) in [
@@ -684,8 +699,9 @@ fn buffers_of_the_plan_and_the_report() {
         both.working_buffers(text, *number);
         both.report_buffers(text, *number);
     }
+    let refused = [(2, 32), (3, 32), (5, 16), (8, 300), (13, 16), (16, 16)];
     both.outcomes
-        .assert_seen(&[(0, 40), (2, 32), (3, 32), (5, 16), (8, 300), (13, 16)]);
+        .assert_seen(&[&[(0, 40)], &refused[..]].concat());
 }
 
 #[test]
@@ -791,7 +807,7 @@ fn every_weight_with_every_line() {
         }
     }
     both.outcomes
-        .assert_seen(&[(0, 500), (2, 10_000), (3, 3000), (5, 500), (13, 0)]);
+        .assert_seen(&[(0, 500), (2, 10_000), (3, 3000), (5, 500), (16, 4)]);
 }
 
 /// Every field of up to five bytes of a minus and some digits, and every other byte
@@ -999,6 +1015,7 @@ fn damaged_texts() {
         (12, 60),
         (13, 50),
         (14, 0),
+        (16, 2),
     ]);
 }
 
@@ -1072,7 +1089,8 @@ fn texts_of_noise() {
         (3, 500),
         (5, 300),
         (12, 100),
-        (13, 200),
+        (13, 40),
+        (16, 100),
         (19, 0),
     ]);
 }

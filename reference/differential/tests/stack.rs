@@ -4,6 +4,7 @@
 use differential::library;
 use second::bridge_texts::every_bridge;
 use second::circuits::{largest_report, worst_search};
+use second::hidden_texts;
 use second::plan::WORKING_NUMBERS;
 use second::random::Random;
 use second::report::REPORT_ROOM;
@@ -91,7 +92,7 @@ fn calls_on_wide_gates_within_64_kib() {
     let worst = with_repeats(&mut random, &worst_search());
     assert_eq!(planned(worst.text()), 14);
     let draft = wide_texts::largest(&mut random);
-    let planned_draft = draft.without_silent().expect("a fault that changes rows");
+    let planned_draft = draft.only_changing().expect("a fault that changes rows");
     let number_of_plan = planned(planned_draft.text());
     assert!([0, 14].contains(&number_of_plan), "{number_of_plan}");
     assert_called(draft.text());
@@ -108,10 +109,33 @@ fn calls_on_signed_weights_within_64_kib() {
     let worst = with_repeats(&mut random, &worst_search());
     assert_eq!(planned(signed_texts::negated(&worst).text()), 14);
     let draft = signed_texts::largest(&mut random);
-    let planned_draft = draft.without_silent().expect("a fault that changes rows");
+    let planned_draft = draft.only_changing().expect("a fault that changes rows");
     let number_of_plan = planned(planned_draft.text());
     assert!([0, 14].contains(&number_of_plan), "{number_of_plan}");
     assert_called(draft.text());
+}
+
+/// One of 32 faults is hidden, the first and then the last, and none silent, so that the
+/// outputs under all of them are compared.
+#[test]
+fn calls_that_end_in_16_within_64_kib() {
+    let mut random = Random::new(66);
+    let draft = hidden_texts::largest(&mut random);
+    assert_eq!((draft.sizes.gates, draft.sizes.faults), (48, 32));
+    let mut faults = draft.faults().to_vec();
+    for due in ["refused,16,1\n", "refused,16,32\n"] {
+        let text = draft.with_faults(&faults, 4).text();
+        assert_eq!(planned(text.clone()), 16);
+        assert_called(text.clone());
+        let (mut out, mut working) = (vec![0; REPORT_ROOM], vec![0; WORKING_NUMBERS]);
+        let report = move || {
+            let written = library::report(&text, &mut out, &mut working);
+            assert_eq!(&out[..written.bytes], due.as_bytes());
+            written.number
+        };
+        assert_eq!(number(report), 0);
+        faults.reverse();
+    }
 }
 
 /// The largest texts, 28 of whose 32 faults are every bridge of eight inputs.

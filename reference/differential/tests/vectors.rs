@@ -7,6 +7,7 @@ use differential::outcomes::Outcomes;
 use second::bridge_texts::{BRIDGED_TABLE, LISTING_WITH_A_BRIDGE};
 use second::circuits::LISTING;
 use second::devices::{self, Device};
+use second::hidden_texts;
 use second::lines::TEXT_LIMIT;
 use second::netlist;
 use second::plan::CAP_LIMIT;
@@ -33,7 +34,7 @@ fn stored_cases_are_those_of_today() {
         file == stored(),
         "run `cargo run --release --offline --locked --bin vectors`"
     );
-    assert!(file.len() < 1_350_000, "{} bytes", file.len());
+    assert!(file.len() < 1_390_000, "{} bytes", file.len());
     let said = std::fs::read_to_string(path().with_file_name("stdout"));
     let due = format!("{} cases, 0 differ\n", CASES.len());
     assert_eq!(said.expect("what is said of them"), due);
@@ -158,7 +159,15 @@ fn stored_cases_are_of_every_call_and_outcome() {
         ("circuit", &[(0, 40), (8, 10), (12, 20), (15, 4), (19, 4)]),
         (
             "plan",
-            &[(0, 20), (8, 5), (13, 5), (14, 5), (15, 4), (19, 8)],
+            &[
+                (0, 20),
+                (8, 5),
+                (13, 20),
+                (14, 5),
+                (15, 4),
+                (16, 30),
+                (19, 8),
+            ],
         ),
         ("reading", &[(0, 80), (1, 1), (12, 10), (19, 4)]),
         ("pair", &[(0, 30), (12, 30), (19, 4)]),
@@ -280,7 +289,7 @@ fn stored_reports_are_of_every_kind() {
     assert!(CASES.iter().any(listing));
     let reports = Reports::stored(false);
     let mut least: Vec<(u32, usize)> = (2..=7).map(|number| (number, 10)).collect();
-    least.extend([(0, 200), (1, 1), (13, 20), (14, 30), (19, 14)]);
+    least.extend([(0, 200), (1, 1), (13, 20), (14, 30), (16, 40), (19, 14)]);
     reports.outcomes.assert_seen(&least);
     let (sizes, inputs) = (reports.sizes, reports.inputs);
     assert!(sizes[1..].iter().all(|&count| count >= 20), "{sizes:?}");
@@ -324,8 +333,8 @@ fn has_a_bridge(text: &[u8]) -> bool {
     lines.any(|line| line.starts_with(b"bridge,"))
 }
 
-/// Those with bridges come after all others but those with wide gates and signed
-/// weights, so that the others stay as they were.
+/// Those with bridges come after all others but those with wide gates, signed weights
+/// and hidden faults, so that the others stay as they were.
 #[test]
 fn stored_cases_with_bridges_come_last_and_are_of_every_kind() {
     let with_bridge = |case: &Case| case.call == "bridged" || has_a_bridge(&case.text);
@@ -357,6 +366,7 @@ fn stored_cases_with_bridges_come_last_and_are_of_every_kind() {
         (7, 1),
         (13, 3),
         (14, 5),
+        (16, 10),
         (19, 20),
     ]);
     let sizes = reports.sizes;
@@ -369,8 +379,8 @@ fn has_a_wide_gate(text: &[u8]) -> bool {
     netlist.is_ok_and(|netlist| netlist.gates.iter().any(|gate| gate.read > 2))
 }
 
-/// Those with wide gates come last but for those with signed weights, and the others
-/// stay as they were.
+/// Those with wide gates come last but for those with signed weights and with hidden
+/// faults, and the others stay as they were.
 #[test]
 fn stored_cases_with_wide_gates_come_last_and_are_of_every_kind() {
     let first = CASES.iter().position(|case| has_a_wide_gate(&case.text));
@@ -388,7 +398,7 @@ fn stored_cases_with_wide_gates_come_last_and_are_of_every_kind() {
     seen("circuit", has_a_wide_gate).assert_seen(&[(0, 50), (8, 4), (12, 4)]);
     seen("reading", has_a_wide_gate).assert_seen(&[(0, 20)]);
     seen("pair", has_a_wide_gate).assert_seen(&[(0, 8), (12, 4)]);
-    seen("plan", has_a_wide_gate).assert_seen(&[(0, 3), (13, 1)]);
+    seen("plan", has_a_wide_gate).assert_seen(&[(0, 3), (13, 1), (16, 10)]);
     let mut reports = Reports::default();
     let wide = CASES[2_470..FIRST_SIGNED].iter();
     for case in wide.filter(|case| case.call == "report") {
@@ -402,8 +412,9 @@ fn stored_cases_with_wide_gates_come_last_and_are_of_every_kind() {
     assert!(sizes[1..].iter().all(|&count| count >= 1), "{sizes:?}");
 }
 
-/// The first case with a weight below 0.
+/// The first case with a weight below 0, and the first of those with hidden faults.
 const FIRST_SIGNED: usize = 2_764;
+const FIRST_HIDDEN: usize = 3_329;
 
 /// A circuit that is accepted and has a weight below 0.
 fn has_a_negative_weight(text: &[u8]) -> bool {
@@ -411,7 +422,8 @@ fn has_a_negative_weight(text: &[u8]) -> bool {
     netlist.is_ok_and(|netlist| netlist.outputs.iter().any(|output| output.weight < 0))
 }
 
-/// Those with signed weights come last, and the others stay as they were.
+/// Those with signed weights come last but for those with hidden faults, and the others
+/// stay as they were.
 #[test]
 fn stored_cases_with_signed_weights_come_last_and_are_of_every_kind() {
     let is_signed = |case: &Case| has_a_negative_weight(&case.text);
@@ -429,14 +441,14 @@ fn stored_cases_with_signed_weights_come_last_and_are_of_every_kind() {
     seen("circuit", has_a_negative_weight).assert_seen(&[(0, 40), (8, 4), (12, 8)]);
     seen("pair", has_a_negative_weight).assert_seen(&[(0, 50), (12, 8)]);
     seen("reading", has_a_negative_weight).assert_seen(&[(0, 70)]);
-    seen("plan", has_a_negative_weight).assert_seen(&[(0, 5), (13, 3), (14, 0)]);
+    seen("plan", has_a_negative_weight).assert_seen(&[(0, 5), (13, 1), (14, 0), (16, 10)]);
     let mut reports = Reports::default();
-    let signed = CASES[FIRST_SIGNED..].iter();
+    let signed = CASES[FIRST_SIGNED..FIRST_HIDDEN].iter();
     for case in signed.clone().filter(|case| case.call == "report") {
         reports.note(case);
     }
     let refused = [(2, 60), (3, 25), (4, 1), (5, 10), (6, 1), (7, 1)];
-    let planned = [(0, 60), (13, 10), (14, 2)];
+    let planned = [(0, 60), (13, 5), (14, 2), (16, 4)];
     let least = [&refused[..], &planned].concat();
     reports.outcomes.assert_seen(&least);
     let sizes = reports.sizes;
@@ -459,6 +471,66 @@ fn stored_cases_with_signed_weights_come_last_and_are_of_every_kind() {
         kinds[1] >= 2 && kinds[2] >= 40 && kinds[3] >= 40,
         "{kinds:?}"
     );
+}
+
+/// Those with hidden faults come last. Of the others eleven end in 16, each a circuit
+/// of weights below 0, and stay as they were in all but that.
+#[test]
+fn stored_cases_with_hidden_faults_come_last_and_are_of_every_kind() {
+    let first = hidden_texts::EXCHANGED_OUTPUTS.as_bytes();
+    let first = CASES.iter().position(|case| case.text == first);
+    assert_eq!(first, Some(FIRST_HIDDEN));
+    let (before, hidden) = CASES.split_at(FIRST_HIDDEN);
+    let ends_in_16 = |case: &&Case| case.number == 16 || case.due.starts_with(b"refused,16,");
+    let earlier: Vec<&Case> = before.iter().filter(ends_in_16).collect();
+    assert_eq!(earlier.len(), 11);
+    let signed = earlier.iter().all(|case| has_a_negative_weight(&case.text));
+    assert!(signed);
+    for (text, ..) in hidden_texts::EXAMPLES {
+        for call in ["circuit", "plan", "report", "reading", "pair"] {
+            let stored = |case: &&Case| case.call == call && case.text == text.as_bytes();
+            let count = hidden.iter().filter(stored).count();
+            assert!(count > 0, "{call} of {text}");
+        }
+    }
+    let mut reports = Reports::default();
+    let mut plans = Outcomes::default();
+    let mut places = [(); 2].map(|_| BTreeSet::new());
+    for case in hidden {
+        match case.call {
+            "report" => reports.note(case),
+            "plan" => plans.note(case.number),
+            _ => assert_eq!(case.number, 0),
+        }
+        let due = String::from_utf8_lossy(&case.due);
+        for (places, number) in places.iter_mut().zip([13, 16]) {
+            for start in ["answer", "refused"] {
+                let rest = due.strip_prefix(&format!("{start},{number},"));
+                let place = rest.and_then(|rest| rest.split([',', '\n']).next());
+                places.extend(place.and_then(|place| place.parse::<usize>().ok()));
+            }
+        }
+    }
+    plans.assert_seen(&[(0, 2), (8, 6), (13, 12), (14, 1), (16, 20)]);
+    let outcomes = [(0, 20), (13, 10), (14, 6), (16, 30)];
+    reports.outcomes.assert_seen(&outcomes);
+    for places in places {
+        let missing = [1, 2, 31, 32].iter().find(|place| !places.contains(place));
+        assert_eq!(missing, None, "{places:?}");
+    }
+    // Working numbers and bytes just short and just enough.
+    for (room, working) in [
+        (0, 4_607),
+        (0, 4_608),
+        (0, 4_700),
+        (1_023, 4_608),
+        (1_024, 4_608),
+    ] {
+        let hides = |case: &&Case| case.text == hidden_texts::EXCHANGED_OUTPUTS.as_bytes();
+        let lent = |case: &&Case| case.room == room && case.working == working;
+        let mut due = hidden.iter().filter(hides).filter(lent);
+        assert!(due.next().is_some(), "room {room}, {working}");
+    }
 }
 
 /// Every weight there is, as the one output's.

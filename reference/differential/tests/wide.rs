@@ -227,7 +227,7 @@ fn repeated_lines_change_no_answer() {
             }
             _ => Sketch::draw(&mut random, inputs).draft(1 + round / 2 % 4),
         };
-        let narrow = narrow.without_silent().unwrap_or(narrow);
+        let narrow = narrow.only_changing().unwrap_or(narrow);
         let wide = with_repeats(&mut random, &narrow);
         assert_eq!(library_spectra(&wide), library_spectra(&narrow), "{wide:?}");
         let [found, due] = [&wide, &narrow].map(|draft| library_report(&draft.text()));
@@ -311,30 +311,23 @@ fn faults_of_inputs_from_coefficients_alone() {
 
 // Good circuits.
 
+/// Bridges in every other count of gates.
+fn draw_half_bridged(random: &mut Random, sizes: Sizes) -> Draft {
+    let draft = draw(random, sizes);
+    match sizes.gates % 2 {
+        0 => draft,
+        _ => with_bridges(random, &draft),
+    }
+}
+
 #[test]
 fn circuits_of_every_size() {
     let mut both = Both::new(SEED + 10);
-    let (mut changing, mut widths) = (0, [0; WIDTH_LIMIT + 1]);
-    for inputs in 1..=8 {
-        for gates in 0..=48 {
-            let drawn = Sizes::draw(&mut both.random);
-            let sizes = Sizes {
-                inputs,
-                gates,
-                // Every count of outputs comes with every count of inputs.
-                outputs: 1 + gates % 4,
-                ..drawn
-            };
-            let draft = draw(&mut both.random, sizes);
-            let draft = match gates % 2 {
-                0 => draft,
-                _ => with_bridges(&mut both.random, &draft),
-            };
-            changing += both.every_fault(&draft);
-            let stuck = stuck_widths(&read(&draft));
-            (1..=WIDTH_LIMIT).for_each(|width| widths[width] += stuck[width]);
-        }
-    }
+    let mut widths = [0; WIDTH_LIMIT + 1];
+    let changing = both.every_size(1, draw_half_bridged, |_, draft| {
+        let stuck = stuck_widths(&read(draft));
+        (1..=WIDTH_LIMIT).for_each(|width| widths[width] += stuck[width]);
+    });
     both.outcomes.assert_seen(&[(0, 6000)]);
     assert!(changing > 2000, "faults that change rows: {changing}");
     assert!(widths[1..].iter().all(|&count| count > 500), "{widths:?}");

@@ -92,8 +92,8 @@ pub fn draw_table(random: &mut Random, inputs: usize) -> Draft {
     with_bridges(random, &drawn)
 }
 
-/// A circuit or table with bridges and without silent faults; circuits of
-/// parities and tables of blocks have more often a plan of several labels, or
+/// A circuit or table with bridges and without silent and hidden faults; circuits
+/// of parities and tables of blocks have more often a plan of several labels, or
 /// none.
 pub fn draw_changing(random: &mut Random, inputs: usize) -> Draft {
     loop {
@@ -112,7 +112,7 @@ pub fn draw_changing(random: &mut Random, inputs: usize) -> Draft {
                 with_bridges(random, &sketch)
             }
         };
-        if let Some(draft) = draft.without_silent() {
+        if let Some(draft) = draft.only_changing() {
             return draft;
         }
     }
@@ -210,8 +210,8 @@ fn one_or_two(sketch: &mut Sketch, [a, b, c, d]: [usize; 4]) -> usize {
     sketch.gate("and", any, at_most_two)
 }
 
-/// A circuit of the largest size whose faults are all bridges, none of them
-/// silent: each of the 28 that eight inputs have, and the first four again.
+/// A circuit of the largest size whose faults are all bridges, none of them silent
+/// or hidden: each of the 28 that eight inputs have, and the first four again.
 pub fn largest_circuit(random: &mut Random) -> Draft {
     let faults: Vec<_> = every_bridge(8).into_iter().cycle().take(32).collect();
     loop {
@@ -438,7 +438,7 @@ mod tests {
         assert_eq!(draft.sizes, Sizes::LARGEST);
         assert_eq!(bridges(&draft).len(), 32);
         assert_eq!(every_bridge(8).len(), 28);
-        assert_eq!(draft.without_silent().map(|d| d.sizes), Some(draft.sizes));
+        assert_eq!(draft.only_changing().map(|d| d.sizes), Some(draft.sizes));
     }
 
     #[test]

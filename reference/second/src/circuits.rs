@@ -213,7 +213,8 @@ impl Draft {
         self.with_faults(self.faults(), cap)
     }
 
-    /// The lines of the faults that are not silent.
+    /// The lines of the faults that change some row's value: those that are neither
+    /// silent nor hidden.
     pub fn changing_faults(&self) -> Vec<Vec<String>> {
         let device = devices::parse(&self.text()).expect("a good text");
         let sound = device.rows(0);
@@ -224,8 +225,8 @@ impl Draft {
             .collect()
     }
 
-    /// The same without its silent faults; none where all are silent.
-    pub fn without_silent(&self) -> Option<Draft> {
+    /// The same with those faults only; none where there are none.
+    pub fn only_changing(&self) -> Option<Draft> {
         let changing = self.changing_faults();
         (!changing.is_empty()).then(|| self.with_faults(&changing, self.sizes.cap))
     }

@@ -1,9 +1,9 @@
-//! What a text describes, circuit or table: the inputs, the rows by the number
-//! of a fault, and the cap. The circuit call stands here; plan and report need
-//! no more of a text either.
+//! What a text describes, circuit or table: the inputs, the outputs and the rows
+//! by the number of a fault, and the cap. The circuit call stands here; plan and
+//! report need no more of a text either.
 
 use crate::lines::Fault;
-use crate::netlist::{self, Netlist};
+use crate::netlist::{self, Netlist, Shown};
 use crate::tables::{self, is_table, Table};
 use crate::walsh::{self, Refusal};
 
@@ -50,6 +50,15 @@ impl Device {
         match self {
             Device::Circuit(netlist) => netlist.rows(fault),
             Device::Table(table) => table.rows(fault),
+        }
+    }
+
+    /// What the outputs show on each row, that of a table, its mark, doubled; the
+    /// same faults.
+    pub fn shown(&self, fault: u32) -> Result<Vec<Shown>, Refusal> {
+        match self {
+            Device::Circuit(netlist) => netlist.shown(fault),
+            Device::Table(table) => table.shown(fault),
         }
     }
 }

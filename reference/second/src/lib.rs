@@ -5,6 +5,7 @@
 pub mod bridge_texts;
 pub mod circuits;
 pub mod devices;
+pub mod hidden_texts;
 pub mod lines;
 pub mod netlist;
 pub mod plan;

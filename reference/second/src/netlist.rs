@@ -1,11 +1,13 @@
-//! The circuit text and its rows, written from the sentences of the paper and of
-//! notes 2, 4 and 8, and nothing else.
+//! The circuit text, its outputs and its rows, written from the sentences of the
+//! paper and of notes 2, 4, 5 and 8, and nothing else.
 
 use crate::lines::{fault_of, Fault, Line, Reader, LINE_LIMIT};
 use crate::walsh::Refusal;
 
 /// A gate reads no more lines: "gates of up to four inputs".
 pub const WIDTH_LIMIT: usize = 4;
+/// "M outputs (1 to 4)".
+pub const OUTPUT_LIMIT: usize = 4;
 /// "-15 to 15 without 0".
 pub const WEIGHT_LIMIT: i32 = 15;
 /// "Row values then run from -60 to 60": 4 outputs of the largest weight.
@@ -93,6 +95,10 @@ pub struct Output {
     pub weight: i32,
 }
 
+/// What the outputs show on one row: bit i - 1 is for output i, in the text's
+/// order. A line that is an output twice has two bits.
+pub type Shown = u8;
+
 /// An accepted circuit text.
 #[derive(Clone, Debug, PartialEq, Eq)]
 pub struct Netlist {
@@ -166,7 +172,7 @@ impl Line<'_> {
 /// 6", of a bridge 19 "in the place of 5 and 6".
 pub fn parse(text: &[u8]) -> Result<Netlist, Refusal> {
     let mut reader = Reader::new(text)?;
-    let ranges = [1..=8, 0..=48, 1..=4, 1..=32, 1..=4];
+    let ranges = [1..=8, 0..=48, 1..=OUTPUT_LIMIT, 1..=32, 1..=4];
     let [inputs, gates, outputs, faults, cap] = reader.line()?.sizes("circuit", ranges)?;
     let lines = inputs + gates;
     let mut netlist = Netlist {
@@ -190,15 +196,28 @@ impl Netlist {
     /// The row values of the sound circuit (fault 0) or under a fault (from
     /// 1); 12 where there is no such fault.
     pub fn rows(&self, fault: u32) -> Result<Vec<i32>, Refusal> {
+        let shown = self.shown(fault)?;
+        Ok(shown.into_iter().map(|shown| self.value(shown)).collect())
+    }
+
+    /// What the outputs show on every row; the same faults.
+    pub fn shown(&self, fault: u32) -> Result<Vec<Shown>, Refusal> {
         let held = Held::by(fault_of(&self.faults, fault)?);
         let values: Vec<_> = self.gates.iter().map(Gate::values).collect();
         Ok((0..1 << self.inputs)
-            .map(|row| self.row(row, &held, &values))
+            .map(|row| self.shown_on(row, &held, &values))
             .collect())
     }
 
     /// "the sum of WEIGHT over outputs showing 1".
-    fn row(&self, row: usize, held: &Held, values: &[Values]) -> i32 {
+    fn value(&self, shown: Shown) -> i32 {
+        let outputs = self.outputs.iter().zip(0..);
+        let showing = outputs.filter(|&(_, at)| shown & (1 << at) != 0);
+        showing.map(|(output, _)| output.weight).sum()
+    }
+
+    /// What the outputs show on a row.
+    fn shown_on(&self, row: usize, held: &Held, values: &[Values]) -> Shown {
         let mut shown = [false; LINE_LIMIT + 1];
         for input in 1..=self.inputs {
             let applied = row & (1 << (input - 1)) != 0;
@@ -212,11 +231,10 @@ impl Netlist {
             let ones = gate.lines.iter().filter(|&&line| shown[line]).count();
             shown[own] = held.stuck[own].unwrap_or(values[ones]);
         }
-        self.outputs
-            .iter()
-            .filter(|output| shown[output.line])
-            .map(|output| output.weight)
-            .sum()
+        let outputs = self.outputs.iter().zip(0..);
+        outputs.fold(0, |bits, (output, at)| {
+            bits | Shown::from(shown[output.line]) << at
+        })
     }
 }
 

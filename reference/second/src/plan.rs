@@ -1,5 +1,5 @@
-//! The plan call, written from the paper's sentences and nothing else: every
-//! set is tried, over coefficients that are direct sums.
+//! The plan call, written from the sentences of the paper and of note 5 and
+//! nothing else: every set is tried, over coefficients that are direct sums.
 
 use crate::devices::{self, Device};
 use crate::walsh::{self, refuse, test_room, Refusal};
@@ -49,10 +49,23 @@ impl Spectra {
     }
 }
 
-/// "the first silent fault", from 1: "no row's value differs under it".
+/// The first of the text's faults, from 1, that is meant.
+fn first_fault(device: &Device, meant: impl Fn(u32) -> bool) -> Option<usize> {
+    (1..=device.faults().len()).find(|&fault| meant(fault as u32))
+}
+
+/// The first silent fault: "no output changes on any row".
 fn first_silent(device: &Device) -> Option<usize> {
-    let sound = device.rows(0);
-    (1..=device.faults().len()).find(|&fault| device.rows(fault as u32) == sound)
+    let shown = device.shown(0);
+    first_fault(device, |fault| device.shown(fault) == shown)
+}
+
+/// The first hidden fault: it "changes some output but no row's weighted sum".
+fn first_hidden(device: &Device) -> Option<usize> {
+    let (shown, rows) = (device.shown(0), device.rows(0));
+    first_fault(device, |fault| {
+        device.shown(fault) != shown && device.rows(fault) == rows
+    })
 }
 
 /// The first way to choose `more` masks from `from` on that cover what is
@@ -89,6 +102,10 @@ pub fn planned(text: &[u8], working: usize) -> Result<Planned, Refusal> {
     if let Some(fault) = first_silent(&device) {
         return refuse(13, fault);
     }
+    // "after 13 and before 14"
+    if let Some(fault) = first_hidden(&device) {
+        return refuse(16, fault);
+    }
     let spectra = Spectra::of(&device);
     match first_set(&spectra, &order(device.inputs()), device.cap()) {
         Some(labels) => Ok(Planned { labels, spectra }),
@@ -106,6 +123,7 @@ mod tests {
     use super::*;
     use crate::bridge_texts::{BRIDGED_TABLE, LISTING_WITH_A_BRIDGE, SILENT_BRIDGE};
     use crate::circuits::{with_line, LISTING, SILENT_FAULT, TWO_OUTPUTS};
+    use crate::hidden_texts::{EXCHANGED_OUTPUTS, OPPOSITE_WEIGHTS, SILENT_BEHIND_HIDDEN};
     use crate::table_texts::{ANOTHER_MARK, SILENT_INPUT, SMALL};
 
     #[test]
@@ -138,6 +156,36 @@ mod tests {
     }
 
     #[test]
+    fn silent_and_hidden_faults() {
+        let working = WORKING_NUMBERS;
+        let plan_of = |text: &str| plan(text.as_bytes(), working);
+        assert_eq!(plan_of(EXCHANGED_OUTPUTS), refuse(16, 1));
+        assert_eq!(plan_of(OPPOSITE_WEIGHTS), refuse(16, 1));
+        assert_eq!(plan_of(SILENT_BEHIND_HIDDEN), refuse(13, 2));
+        assert_eq!(plan_of(SILENT_FAULT), refuse(13, 1));
+        // The weights alone hide the first two faults, and not the third.
+        let other = with_line(EXCHANGED_OUTPUTS, 4, "output,2,2");
+        assert_eq!(plan(&other, working), Ok(vec![0]));
+        let other = with_line(OPPOSITE_WEIGHTS, 3, "output,1,1");
+        assert_eq!(plan(&other, working), Ok(vec![0]));
+        let other = with_line(SILENT_BEHIND_HIDDEN, 5, "output,2,-1");
+        assert_eq!(plan(&other, working), refuse(13, 2));
+        // The paper's two outputs, which no one label covers, with x3 and its
+        // complement as two more: hidden goes before 14.
+        let text = "circuit,3,5,4,3,1\n\
+            gate,xor,1,1\ngate,xor,1,1\ngate,xor,1,4\ngate,xor,2,5\ngate,not,3,0\n\
+            output,6,1\noutput,7,1\noutput,3,4\noutput,8,4\n\
+            fault,4,1\nfault,5,1\nfault,3,0\n";
+        assert_eq!(plan_of(text), refuse(16, 3));
+        let bridged = with_line(text, 11, "bridge,1,2");
+        assert_eq!(plan(&bridged, working), refuse(16, 3));
+        let not_stuck = with_line(text, 13, "fault,4,1");
+        assert_eq!(plan(&not_stuck, working), refuse(14, 0));
+        let opposite = with_line(text, 9, "output,3,-4");
+        assert_eq!(plan(&opposite, working), refuse(14, 0));
+    }
+
+    #[test]
     fn order_of_the_refusals() {
         let short = WORKING_NUMBERS - 1;
         assert_eq!(plan(b"", short), refuse(2, 1));
@@ -145,6 +193,11 @@ mod tests {
         assert_eq!(plan(SILENT_FAULT.as_bytes(), short), refuse(8, 0));
         assert_eq!(plan(TWO_OUTPUTS.as_bytes(), short), refuse(8, 0));
         assert_eq!(plan(SILENT_BRIDGE.as_bytes(), short), refuse(8, 0));
+        for text in [EXCHANGED_OUTPUTS, OPPOSITE_WEIGHTS, SILENT_BEHIND_HIDDEN] {
+            assert_eq!(plan(text.as_bytes(), short), refuse(8, 0));
+        }
+        let no_line = with_line(EXCHANGED_OUTPUTS, 5, "fault,3,0");
+        assert_eq!(plan(&no_line, short), refuse(5, 5));
         let no_inputs = with_line(LISTING_WITH_A_BRIDGE, 8, "bridge,1,4");
         assert_eq!(plan(&no_inputs, short), refuse(19, 8));
     }

@@ -54,6 +54,7 @@ mod tests {
     use super::*;
     use crate::bridge_texts::{BRIDGED_TABLE, LISTING_WITH_A_BRIDGE, SILENT_BRIDGE};
     use crate::circuits::{with_line, LISTING, SILENT_FAULT, TWO_OUTPUTS};
+    use crate::hidden_texts::EXCHANGED_OUTPUTS;
     use crate::table_texts::{ANOTHER_MARK, SILENT_INPUT, SMALL};
     use crate::walsh::refuse;
 
@@ -75,6 +76,7 @@ mod tests {
         let due = "plan,1\nlabel,0,5\nfault,1,0,2\nfault,2,0,6\n";
         assert_eq!(report_on(SMALL.as_bytes()), due);
         assert_eq!(report_on(SILENT_INPUT.as_bytes()), "refused,13,1\n");
+        assert_eq!(report_on(EXCHANGED_OUTPUTS.as_bytes()), "refused,16,1\n");
         assert_eq!(report_on(ANOTHER_MARK.as_bytes()), "refused,15,2\n");
     }
 
@@ -91,7 +93,15 @@ mod tests {
 
     #[test]
     fn short_buffers_go_before_all_else() {
-        for text in [LISTING, SILENT_FAULT, "", "x", SMALL, ANOTHER_MARK] {
+        for text in [
+            LISTING,
+            SILENT_FAULT,
+            EXCHANGED_OUTPUTS,
+            "",
+            "x",
+            SMALL,
+            ANOTHER_MARK,
+        ] {
             let text = text.as_bytes();
             assert_eq!(report(text, 1_023, 4_608), refuse(8, 0));
             assert_eq!(report(text, 1_024, 4_607), refuse(8, 0));

@@ -106,13 +106,13 @@ pub fn draw(random: &mut Random, sizes: Sizes) -> Draft {
     with_signs(random, &drawn)
 }
 
-/// The same without silent faults, now and then with a plan of several labels or
-/// none.
+/// The same without silent and hidden faults, now and then with a plan of several
+/// labels or none.
 pub fn draw_changing(random: &mut Random, inputs: usize) -> Draft {
     loop {
         let drawn = wide_texts::draw_changing(random, inputs);
         let signed = with_signs(random, &drawn);
-        if let Some(draft) = signed.without_silent() {
+        if let Some(draft) = signed.only_changing() {
             return draft;
         }
     }
@@ -272,7 +272,7 @@ mod tests {
         assert_eq!(found, Ok(vec![-4, 2, 0, -2, 2, 0, 2, 0]));
         let due = "plan,1\nlabel,0,-15\nfault,1,0,0\nfault,2,0,-30\n";
         assert_eq!(report_on(SUBTRACTED_INPUT), due);
-        assert_eq!(report_on(CANCELLED_FAULT), "refused,13,1\n");
+        assert_eq!(report_on(CANCELLED_FAULT), "refused,16,1\n");
         let rows = parse(CANCELLED_FAULT.as_bytes()).map(|netlist| netlist.rows(2));
         assert_eq!(rows, Ok(Ok(vec![0, 3, -1, 2])));
     }
@@ -281,7 +281,7 @@ mod tests {
     fn drawn_circuits_have_weights_of_both_signs() {
         let mut random = Random::new(70);
         let (mut seen, mut rows) = (BTreeSet::new(), BTreeSet::new());
-        let (mut cancelled, mut silent) = (0, 0);
+        let (mut cancelled, mut unchanged) = (0, 0);
         for _ in 0..400 {
             let sizes = Sizes::draw(&mut random);
             let draft = draw(&mut random, sizes);
@@ -291,7 +291,7 @@ mod tests {
             seen.extend(weights);
             let sound = netlist.rows(0).expect("fault 0");
             let faults = 1..=sizes.faults as u32;
-            silent += faults
+            unchanged += faults
                 .filter(|&fault| netlist.rows(fault).as_ref() == Ok(&sound))
                 .count();
             rows.extend(sound);
@@ -299,7 +299,7 @@ mod tests {
         assert!(every_weight().all(|weight| seen.contains(&weight)));
         assert_eq!(seen.len(), 30);
         assert!(cancelled > 80, "weights that cancel out: {cancelled}");
-        assert!(silent > 500, "silent faults: {silent}");
+        assert!(unchanged > 500, "faults that change no row: {unchanged}");
         let (low, high) = (rows.first().copied(), rows.last().copied());
         assert!(low < Some(-35) && high > Some(35), "{low:?} to {high:?}");
         assert!((-20..=20).all(|row| rows.contains(&row)), "{rows:?}");
@@ -329,6 +329,7 @@ mod tests {
     #[test]
     fn cancelled_circuits_have_rows_of_0_only() {
         let mut random = Random::new(72);
+        let mut hidden = 0;
         for _ in 0..100 {
             let sizes = Sizes::draw(&mut random);
             let draft = cancelled(&draw(&mut random, sizes));
@@ -337,9 +338,17 @@ mod tests {
                 let rows = netlist.rows(fault).expect("rows");
                 assert!(rows.iter().all(|&row| row == 0), "{draft:?}");
             }
+            // No fault changes a value: each is silent or hidden.
             let found = plan(&draft.text(), WORKING_NUMBERS);
-            assert_eq!(found, crate::walsh::refuse(13, 1));
+            match number_of(&found) {
+                16 => {
+                    assert_eq!(found, crate::walsh::refuse(16, 1));
+                    hidden += 1;
+                }
+                number => assert_eq!(number, 13, "{draft:?}"),
+            }
         }
+        assert!((10..90).contains(&hidden), "16 came {hidden} times");
     }
 
     #[test]

@@ -219,7 +219,7 @@ pub fn draw_changing(random: &mut Random, inputs: usize) -> Draft {
             0 => draw(random, inputs),
             _ => draw_blocks(random, inputs),
         };
-        if let Some(draft) = draft.without_silent() {
+        if let Some(draft) = draft.only_changing() {
             return draft;
         }
     }
@@ -435,7 +435,7 @@ mod tests {
         let mut planned = 0;
         for round in 0..300 {
             let drawn = draw_circuit(&mut random, 1 + round % 6);
-            let netlist = drawn.without_silent().unwrap_or(drawn);
+            let netlist = drawn.only_changing().unwrap_or(drawn);
             let table = table_of(&netlist);
             let found = plan_of(&table);
             assert_eq!(found, plan_of(&netlist), "{netlist:?}");

@@ -2,6 +2,7 @@
 //! and the paper's sentences on lines, and nothing else.
 
 use crate::lines::{fault_of, Fault, Reader, StuckLine};
+use crate::netlist::Shown;
 use crate::walsh::{bridged_row, Refusal};
 
 /// An accepted table text.
@@ -60,6 +61,12 @@ impl Table {
         Ok((0..self.rows.len())
             .map(|row| self.rows[shown(row, fault)])
             .collect())
+    }
+
+    /// The same as what the one output of a table, its mark, shows.
+    pub fn shown(&self, fault: u32) -> Result<Vec<Shown>, Refusal> {
+        let rows = self.rows(fault)?;
+        Ok(rows.into_iter().map(|mark| mark as Shown).collect())
     }
 }
 

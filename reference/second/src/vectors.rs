@@ -10,6 +10,7 @@
 
 mod bridges;
 mod examples;
+mod hidden;
 mod lists;
 mod signed;
 mod tables;
@@ -58,8 +59,8 @@ pub fn stored() -> Vec<u8> {
 }
 
 /// All cases: the paper's examples first, those on tables, with bridges, with wide
-/// gates and with signed weights last, one after the other, so that earlier cases
-/// stay where they were.
+/// gates, with signed weights and with hidden faults last, one after the other, so
+/// that earlier cases stay where they were.
 pub fn cases() -> Vec<Case> {
     let texts = texts::texts(&mut Random::new(SEED));
     let mut random = Random::new(SEED + 1);
@@ -71,6 +72,7 @@ pub fn cases() -> Vec<Case> {
     cases.extend(bridges::cases(&mut Random::new(SEED + 3)));
     cases.extend(wide::cases(&mut Random::new(SEED + 4)));
     cases.extend(signed::cases(&mut Random::new(SEED + 5)));
+    cases.extend(hidden::cases(&mut Random::new(SEED + 6)));
     cases
 }
 

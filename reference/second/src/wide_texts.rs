@@ -111,8 +111,8 @@ pub fn with_repeats(random: &mut Random, draft: &Draft) -> Draft {
     })
 }
 
-/// A circuit of wide gates without silent faults; those of parities have more
-/// often a plan of several labels, or none.
+/// A circuit of wide gates without silent and hidden faults; those of parities have
+/// more often a plan of several labels, or none.
 pub fn draw_changing(random: &mut Random, inputs: usize) -> Draft {
     loop {
         let draft = match random.below(3) {
@@ -129,7 +129,7 @@ pub fn draw_changing(random: &mut Random, inputs: usize) -> Draft {
                 with_repeats(random, &sketch)
             }
         };
-        if let Some(draft) = draft.without_silent() {
+        if let Some(draft) = draft.only_changing() {
             return draft;
         }
     }

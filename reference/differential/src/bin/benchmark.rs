@@ -2,13 +2,14 @@
 //! implementation's direct ones and, for the spectrum, a plain fast transform; then
 //! its circuit call against rows one by one and that transform, its plan and
 //! report calls on a circuit and on a table, and its plan call on both with
-//! bridges, against the same with a choice of labels that is cut short, its
-//! reading and pair calls against a plain mean of those rows, these calls on
-//! circuits of wide gates, and the program `signature` on the listing, from its
-//! start to its end, against `report`.
+//! bridges, against the same with a choice of labels that is cut short, its plan
+//! call on a circuit where a fault is hidden, its reading and pair calls against a
+//! plain mean of those rows, these calls on circuits of wide gates, and the program
+//! `signature` on the listing, from its start to its end, against `report`.
 
 use differential::{fast, library};
 use second::circuits::{worst_search, Draft, Sizes, LISTING};
+use second::hidden_texts;
 use second::plan::{self, CAP_LIMIT, WORKING_NUMBERS};
 use second::random::Random;
 use second::reading::Reading;
@@ -207,7 +208,9 @@ fn main() {
         check_plan(text);
     }
     let worst = worst_search().text();
-    check_worst_search(&worst);
+    check_refused(&worst, 14, 0);
+    let hidden = hidden_texts::largest(&mut Random::new(16)).text();
+    check_refused(&hidden, 16, 1);
     check_readings(&text, faults);
     check_readings(&wide, faults);
     check_readings(&three, faults);
@@ -216,6 +219,7 @@ fn main() {
 
     let (rows, spectrum, text) = (&rows[..], &spectrum[..], &text[..]);
     let (planned, table, worst) = (&planned[..], &table[..], &worst[..]);
+    let hidden = &hidden[..];
     let (bridges, table_bridges) = (&bridges[..], &table_bridges[..]);
     let (wide, wide_planned) = (&wide[..], &wide_planned[..]);
     let (three, three_planned) = (&three[..], &three_planned[..]);
@@ -229,8 +233,8 @@ fn main() {
     let mut working = [(); 7].map(|_| vec![0; WORKING_NUMBERS]);
     let [to_plan, to_search, to_report, to_table_plan, to_table_report, to_bridges, to_table_bridges] =
         &mut working;
-    let mut working = [(); 4].map(|_| vec![0; WORKING_NUMBERS]);
-    let [to_three_plan, to_three_report, to_wide_plan, to_wide_report] = &mut working;
+    let mut working = [(); 5].map(|_| vec![0; WORKING_NUMBERS]);
+    let [to_three_plan, to_three_report, to_wide_plan, to_wide_report, to_hidden] = &mut working;
     let mut bytes = [(); 4].map(|_| vec![0; REPORT_ROOM]);
     let [to_bytes, to_table_bytes, to_three_bytes, to_wide_bytes] = &mut bytes;
 
@@ -346,6 +350,7 @@ fn main() {
             to_wide_report,
         ),
         reading_race("reading, four fields a gate", wide),
+        plan_race("plan, first of 32 is hidden", hidden, to_hidden),
         plan_race(WORST_SEARCH, worst, to_search),
         Race {
             name: "signature, the listing",
@@ -472,7 +477,7 @@ fn planned_text(random: &mut Random, draw: fn(&mut Random) -> Draft) -> Vec<u8> 
     loop {
         let draft = draw(random);
         let changing = draft.changing_faults();
-        // Faults that change a row stand in for the silent ones.
+        // Faults that change a row stand in for the silent and the hidden ones.
         let faults: Vec<_> = changing.iter().cycle().take(32).cloned().collect();
         let text = draft.with_faults(&faults, CAP_LIMIT).text();
         if faults.len() == 32 && fast::plan(&text, WORKING_NUMBERS).is_ok_and(|set| set.len() > 1) {
@@ -524,10 +529,12 @@ fn check_plan(planned: &[u8]) {
 }
 
 /// The same where there is no plan.
-fn check_worst_search(worst: &[u8]) {
+fn check_refused(text: &[u8], number: u32, place: usize) {
     let working = &mut vec![0; WORKING_NUMBERS];
-    assert_eq!(library::plan(worst, working).number, 14);
-    assert_eq!(fast::plan(worst, WORKING_NUMBERS), walsh::refuse(14, 0));
+    let found = library::plan(text, working);
+    assert_eq!((found.number, found.place), (number, place));
+    let due = walsh::refuse(number, place);
+    assert_eq!(fast::plan(text, WORKING_NUMBERS), due);
 }
 
 /// The same for readings without fixed inputs; four outputs make a weighted sum.

@@ -110,7 +110,7 @@ fn texts(random: &mut Random) -> Vec<Vec<u8>> {
         drafts.push(draw_changing(random, inputs.min(6)));
         let drawn = draw_changing(random, inputs.min(6));
         let bridged = with_bridges(random, &drawn);
-        drafts.extend(bridged.without_silent());
+        drafts.extend(bridged.only_changing());
         // The same with every weight negated has the same labels.
         drafts.push(negated(&drawn));
         drafts.push(drawn);

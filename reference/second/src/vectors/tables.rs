@@ -54,14 +54,14 @@ fn texts(random: &mut Random) -> Vec<Vec<u8>> {
     let mut drafts = vec![largest()];
     for inputs in 1..=8 {
         drafts.extend([draw(random, inputs), draw_blocks(random, inputs)]);
-        drafts.extend(draw(random, inputs).without_silent());
+        drafts.extend(draw(random, inputs).only_changing());
         for labels in 1..=CAP_LIMIT {
             for cap in labels.max(2) - 1..=labels {
                 drafts.extend(with_labels(random, inputs, labels, cap));
             }
         }
         let circuit = draw_circuit(random, inputs);
-        drafts.push(table_of(&circuit.without_silent().unwrap_or(circuit)));
+        drafts.push(table_of(&circuit.only_changing().unwrap_or(circuit)));
     }
     drafts.extend((2..=8).map(|inputs| draw_with_a_silent_input(random, inputs)));
     let mut texts: Vec<Vec<u8>> = drafts.iter().map(Draft::text).collect();

@@ -52,7 +52,7 @@ fn chosen_texts() -> Vec<Vec<u8>> {
     texts
 }
 
-/// Circuits as they are drawn, and without their silent faults; of the
+/// Circuits as they are drawn, and without their silent and hidden faults; of the
 /// largest sizes too.
 fn drawn_texts(random: &mut Random, inputs: usize) -> Vec<Vec<u8>> {
     let mut texts = Vec::new();
@@ -68,7 +68,7 @@ fn drawn_texts(random: &mut Random, inputs: usize) -> Vec<Vec<u8>> {
         match texts.len() {
             0..4 => texts.push(Draft::draw(random, drawn).text()),
             4..13 => {
-                let draft = Draft::draw(random, drawn).without_silent();
+                let draft = Draft::draw(random, drawn).only_changing();
                 texts.extend(draft.map(|draft| draft.text()));
             }
             _ => {
@@ -97,7 +97,7 @@ fn heavy_texts(random: &mut Random) -> Vec<Vec<u8>> {
         }
         let rows = parse(&draft.text()).and_then(|netlist| netlist.rows(0));
         if rows.is_ok_and(|rows| rows.iter().sum::<i32>() >= 10_000) {
-            texts.extend(draft.without_silent().map(|draft| draft.text()));
+            texts.extend(draft.only_changing().map(|draft| draft.text()));
         }
     }
     texts
@@ -123,7 +123,7 @@ fn texts_by_outcome(random: &mut Random, inputs: usize) -> Vec<Vec<u8>> {
         // takes long for four of many labels.
         let cap = 1 + random.below(if inputs < 7 { 4 } else { 3 });
         let sketch = Sketch::draw(random, inputs).draft(cap);
-        let Some(draft) = sketch.without_silent() else {
+        let Some(draft) = sketch.only_changing() else {
             continue;
         };
         let text = draft.text();

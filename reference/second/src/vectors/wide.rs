@@ -77,7 +77,7 @@ fn texts(random: &mut Random) -> Vec<Vec<u8>> {
         }
         let drawn = draw_changing(random, inputs.min(6));
         let bridged = with_bridges(random, &drawn);
-        drafts.extend(bridged.without_silent());
+        drafts.extend(bridged.only_changing());
     }
     // The same function, wide and in gates of two inputs.
     let pair = std::iter::repeat_with(|| small(random)).find_map(|wide| {

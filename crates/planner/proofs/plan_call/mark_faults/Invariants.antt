@@ -1,4 +1,4 @@
--- No fault before f is silent, and the masks are those of the faults before it.
+-- Each fault before f changes a row, and the masks are those of the faults before it.
 use Rattle.planner.proofs.PlanLaws.{MarkedBelow}
 use Rattle.planner.proofs.plan_call.mark_faults.Given as goal
 

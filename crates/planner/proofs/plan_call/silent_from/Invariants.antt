@@ -1,0 +1,6 @@
+-- No fault before f is silent.
+use Rattle.planner.proofs.PlanLaws.{ComparedBelow}
+use Rattle.planner.proofs.plan_call.silent_from.Given as goal
+
+abbrev pub invariant-loop-f : goal.invariant-loop-f
+invariant-loop-f l = ComparedBelow l.d l.sound l.f
