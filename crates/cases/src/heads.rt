@@ -1,5 +1,5 @@
 // The head of a case.
-ghost use Rattle.std.specs.Prelude.{◌≤◌, ◌<◌, IfSome};
+ghost use Rattle.std.specs.Prelude.{◌≤◌, length};
 
 use crate::numbers;
 
@@ -58,37 +58,43 @@ fn call_of(word: &[u8]) -> Option<Call> {
 }
 
 // Whether a comma stands before each number, and a line end after the last.
-fn is_separated(head: &[u8; 54]) -> bool {
+fn is_separated(head: &[u8]) -> bool
+    requires { 54 ≤ length head.now }
+{
     head[11..53].iter().step_by(6).all(|b| *b == b',') && head[53] == b'\n'
 }
 
+// A size that is no number: more than any case has. A head always says something, so that of a damaged one the rest of its case is still read where its sizes
+// stand, and the next case found.
+const NO_SIZE: usize = 10_000_000_000;
+
 // The number after comma k.
-fn size_at(head: &[u8; 54], k: usize) -> Option<usize>
-    requires { k ≤ 6 }
-    ensures { IfSome result (λ n. n < 10000000000) }
+fn size_at(head: &[u8], k: usize) -> usize
+    requires { (54 ≤ length head.now) × (k ≤ 6) }
+    ensures { result ≤ 10000000000 }
 {
-    numbers::decimal(&head[12 + 6 * k..17 + 6 * k]).map(|n| n as usize)
+    numbers::decimal(&head[12 + 6 * k..17 + 6 * k]).map_or(NO_SIZE, |n| n as usize)
 }
 
-// What a head says; nothing where a number is no number. A head that is not separated right names no call: so the rest of its case is still read, and the next
-// case found.
-pub fn read(head: &[u8; 54]) -> Option<CaseHead>
-    ensures { IfSome result (λ h. (h.text < 10000000000) × (h.list < 10000000000) × (h.first < 10000000000) × (h.second < 10000000000) × (h.due < 10000000000)) }
+// What a head says; one that is not separated right names no call.
+pub fn read(head: &[u8]) -> CaseHead
+    requires { 54 ≤ length head.now }
+    ensures { (result.text ≤ 10000000000) × (result.list ≤ 10000000000) × (result.first ≤ 10000000000) × (result.second ≤ 10000000000) × (result.due ≤ 10000000000) }
 {
-    Some(CaseHead {
+    CaseHead {
         call: if is_separated(head) {
             call_of(&head[..11])
         } else {
             None
         },
-        text: size_at(head, 0)?,
-        list: size_at(head, 1)?,
-        first: size_at(head, 2)?,
-        second: size_at(head, 3)?,
-        room: size_at(head, 4)?,
-        work: size_at(head, 5)?,
-        due: size_at(head, 6)?,
-    })
+        text: size_at(head, 0),
+        list: size_at(head, 1),
+        first: size_at(head, 2),
+        second: size_at(head, 3),
+        room: size_at(head, 4),
+        work: size_at(head, 5),
+        due: size_at(head, 6),
+    }
 }
 
 // A head of a call on a list: no text, no working numbers, so many arguments.

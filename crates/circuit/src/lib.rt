@@ -2,6 +2,7 @@
 #![tactic(auto)]
 
 ghost use Rattle.std.specs.Prelude.{◌≡◌, ◌^◌, ◌≤◌, length};
+ghost use Rattle.devices.specs.Forms.{problem_of};
 ghost use Rattle.devices.specs.Problems.{rows_at};
 ghost use Rattle.results.specs.Results.{leaves};
 ghost use Rattle.transform.specs.Spectrum.{spectrum_of};
@@ -13,9 +14,9 @@ use refusals::Refusal;
 
 /// The spectrum of the rows under a fault, written to the front of `out`; or 8.
 pub fn fault_spectrum(d: &Device, fault: usize, out: &mut [i32]) -> Result<(), Refusal>
-    requires { fault ≤ length d.now.faulted }
-    ensures value { answer_of result ≡ room_answer d.now.inputs (length out.old) }
-    ensures out_after { out.new ≡ leaves (answer_of result) (spectrum_of (rows_at d.now fault)) out.old }
+    requires { fault ≤ length (problem_of d.now).faulted }
+    ensures value { answer_of result ≡ room_answer (problem_of d.now).inputs (length out.old) }
+    ensures out_after { out.new ≡ leaves (answer_of result) (spectrum_of (rows_at (problem_of d.now) fault)) out.old }
 {
     let due: usize = 1 << d.inputs();
     let mut space = [0i32; 256];

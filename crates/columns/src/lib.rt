@@ -9,35 +9,6 @@ ghost use Rattle.columns.specs.Steps.{seen_as, Columned, input_rule};
 
 use statements::{Fault, FaultKind, Pair};
 
-#[tactic(auto, unfolding(crate::specs::Shown::stuck_or))]
-fn stuck_or(s: Pair, line: usize, v: bool) -> bool
-    ensures { result ≡ stuck_or s line v }
-{
-    if s.line as usize == line { s.value } else { v }
-}
-
-// A pair that is not there is one of line 0 in the definitions, so there that line shows 0: `Seen::through` promises its equation of every line.
-#[tactic(auto, using(crate::proofs::FreePairs::free_keeps, crate::proofs::FreePairs::free_none))]
-fn added_or(s: Option<Pair>, line: usize, v: bool) -> bool
-    ensures { result ≡ stuck_or (pair_or_free s) line v }
-{
-    match s {
-        Some(p) => stuck_or(p, line, v),
-        None => line != 0 && v,
-    }
-}
-
-// What a line shows under a fault, where v was applied or computed. With no stuck lines that is v, but for line 0, as above.
-#[tactic(auto, using(crate::proofs::FreePairs::free_keeps, crate::proofs::FreePairs::free_none), unfolding(crate::specs::Shown::shown))]
-fn show(f: Fault, line: usize, v: bool) -> bool
-    ensures { result ≡ shown f line v }
-{
-    match f.kind {
-        FaultKind::Stuck(a, b, c) => { stuck_or(a, line, added_or(b, line, added_or(c, line, v))) }
-        FaultKind::Sound | FaultKind::Bridged(_) => line != 0 && v,
-    }
-}
-
 // What a line shows where 1 was applied or computed, and where 0 was.
 #[derive(Clone, Copy)]
 pub struct Seen {
@@ -46,12 +17,48 @@ pub struct Seen {
 }
 
 impl Seen {
+    // What is shown with one more stuck line.
+    #[tactic(auto, unfolding(crate::specs::Shown::stuck_or))]
+    fn stuck(self, s: Pair, line: usize) -> Seen
+        ensures { (result.one ≡ stuck_or s line self.one) × (result.zero ≡ stuck_or s line self.zero) }
+    {
+        if s.line as usize == line {
+            Seen {
+                one: s.value,
+                zero: s.value,
+            }
+        } else {
+            self
+        }
+    }
+
+    // A pair that is not there is one of line 0 in the definitions, so there that line shows 0: `through` promises its equation of every line.
+    #[tactic(auto, using(crate::proofs::FreePairs::free_keeps, crate::proofs::FreePairs::free_none))]
+    fn added(self, s: Option<Pair>, line: usize) -> Seen
+        ensures { (result.one ≡ stuck_or (pair_or_free s) line self.one) × (result.zero ≡ stuck_or (pair_or_free s) line self.zero) }
+    {
+        match s {
+            Some(p) => self.stuck(p, line),
+            None => Seen {
+                one: line != 0 && self.one,
+                zero: line != 0 && self.zero,
+            },
+        }
+    }
+
+    // With no stuck lines a line shows what was applied or computed, but for line 0, as above.
+    #[tactic(auto, using(crate::proofs::FreePairs::free_keeps, crate::proofs::FreePairs::free_none), unfolding(crate::specs::Shown::shown))]
     pub fn through(f: Fault, line: usize) -> Seen
         ensures { (result.one ≡ shown f line true) × (result.zero ≡ shown f line false) }
     {
-        Seen {
-            one: show(f, line, true),
-            zero: show(f, line, false),
+        let plain = Seen {
+            one: true,
+            zero: false,
+        };
+        match f.kind {
+            FaultKind::Stuck(a, b, c) => plain.added(c, line).added(b, line).stuck(a, line),
+            FaultKind::Unstated(a, b, c, _) => plain.stuck(c, line).stuck(b, line).stuck(a, line),
+            FaultKind::Sound | FaultKind::Bridged(_) => plain.added(None, line),
         }
     }
 

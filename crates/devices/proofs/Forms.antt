@@ -5,16 +5,16 @@ use Rattle.simulation.specs.Rows.{rows_of, outputs_of}
 use Rattle.tables.specs.Tables.{TruthTable, table_fault_at}
 use Rattle.lookup.specs.TableRows.{table_rows}
 use Rattle.devices.specs.Devices.{circuit_problem, table_problem}
-use Rattle.devices.specs.Forms.{form_problem}
+use Rattle.devices.specs.Forms.{problem_of}
 use Rattle.devices.specs.Problems.{Problem, problem_from, rows_at, outputs_at}
-use Rattle.devices.specs.declared.device.Form.{Form}
-use Rattle.devices.specs.declared.device.Form.TheVariants.{Gates, Marks}
+use Rattle.devices.specs.declared.device.Device.{Device}
+use Rattle.devices.specs.declared.device.Device.TheVariants.{Gates, Marks}
 use Rattle.devices.proofs.ProblemRows.{circuit-count, circuit-rows, circuit-outputs, table-count, table-rows, table-outputs}
 
-module _ (form : Form) (p : Problem) (view : form_problem form ≡ p) where
-  module _ (n : Netlist) (is : form ≡ Gates n) where
+module _ (d : Device) (p : Problem) (view : problem_of d ≡ p) where
+  module _ (n : Netlist) (is : d ≡ Gates n) where
     pub is_circuit_problem : circuit_problem n ≡ p
-    is_circuit_problem = ap form_problem (sym is) ∙ view
+    is_circuit_problem = ap problem_of (sym is) ∙ view
 
     pub circuit-inputs : n.inputs ≡ p.inputs
     unfolding circuit_problem problem_from
@@ -33,9 +33,9 @@ module _ (form : Form) (p : Problem) (view : form_problem form ≡ p) where
     pub circuit-outputs-at : (k : ℕ) → k ≤ length n.faults → outputs_of n (fault_at n k) ≡ outputs_at p k
     circuit-outputs-at k h = sym (circuit-outputs n k h) ∙ ap (λ (q : Problem). outputs_at q k) is_circuit_problem
 
-  module _ (t : TruthTable) (is : form ≡ Marks t) where
+  module _ (t : TruthTable) (is : d ≡ Marks t) where
     pub is_table_problem : table_problem t ≡ p
-    is_table_problem = ap form_problem (sym is) ∙ view
+    is_table_problem = ap problem_of (sym is) ∙ view
 
     pub table-inputs : t.inputs ≡ p.inputs
     unfolding table_problem problem_from

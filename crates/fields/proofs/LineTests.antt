@@ -1,17 +1,26 @@
 -- What the code that reads one line finds:
+--   passes, fails             what a test `if !r` shows of the test that r is
 --   unwrapped, value_small    the number in a field, 0 where there is none, which is at most 9999
 --   numbers_all               whether all fields of a range are numbers
-use mathlib.Core.Path.{◌≡◌, refl}
+use mathlib.Core.Path.{◌≡◌, refl, sym, ◌∙◌}
+use mathlib.Core.Bool.{Bool, true, false, not}
 use mathlib.Core.List.{List}
 use Prim.Native.Nat.{ℕ, zero, suc, ◌≤◌}
 use native.Mathlib.Numerals.{add-one}
 use lib.Dec.{lit≤}
+use borrow.Author.Tests.{not-true, not-false}
 use Rattle.std.specs.Option.{unwrap_or}
 use Rattle.std.specs.List.{list_all, range_with_len}
 use Rattle.text.specs.Text.{field_of, number_of}
 use Rattle.std.specs.Prelude.{Option, Some, None}
 use Rattle.text.proofs.Decimals.{number-le}
 use Rattle.fields.specs.Fields.{is_number, number_value, value_at, numbers_from}
+
+pub passes : {r t : Bool} → r ≡ t → not r ≡ false → t ≡ true
+passes {r} e n = sym e ∙ not-false r n
+
+pub fails : {r t : Bool} → r ≡ t → not r ≡ true → t ≡ false
+fails {r} e n = sym e ∙ not-true r n
 
 pub value_small : (l : List ℕ) (k : ℕ) → value_at l k ≤ 9999
 unfolding value_at

@@ -8,7 +8,7 @@ ghost use Rattle.lookup.specs.StuckPairs.{OfInputs};
 ghost use Rattle.lookup.specs.TableRows.{stuck_row_number, bridge_row, table_rows};
 ghost use Rattle.lookup.specs.Steps.{pair_row};
 
-use statements::{Fault, FaultKind, Pair};
+use statements::{Bridge, Fault, FaultKind, Pair};
 use tables::Table;
 
 // Row x with the pair's input replaced by its VALUE.
@@ -33,6 +33,15 @@ fn added_row(s: Option<Pair>, x: usize) -> usize
     }
 }
 
+// Row x with the pair's input replaced where it names one, as a pair of what no text states may not.
+#[tactic(auto, unfolding(crate::specs::Steps::pair_row))]
+fn unstated_row(s: Pair, x: usize) -> usize
+    requires { (s.line ≤ 8) × (x < 256) }
+    ensures { (result ≡ pair_row s x) × (result < 256) }
+{
+    if s.line == 0 { x } else { pair_row(s, x) }
+}
+
 // Row x with every stuck input replaced.
 #[tactic(auto, using(crate::proofs::PairRows::stuck_row_steps), unfolding(crate::specs::Steps::pair_row))]
 fn stuck_row(f: Fault, x: usize) -> usize
@@ -41,30 +50,39 @@ fn stuck_row(f: Fault, x: usize) -> usize
 {
     match f.kind {
         FaultKind::Stuck(a, b, c) => added_row(c, added_row(b, pair_row(a, x))),
+        FaultKind::Unstated(a, b, c, _) => unstated_row(c, unstated_row(b, unstated_row(a, x))),
         FaultKind::Sound | FaultKind::Bridged(_) => x,
     }
 }
 
 // Row x with both inputs of a bridge replaced by the AND of what is applied to them.
-#[tactic(auto, using(crate::proofs::PairRows::bridge_row_steps), unfolding(crate::specs::TableRows::bridge_row))]
+#[tactic(auto, using(crate::proofs::PairRows::bridge_row_steps))]
+fn joined_row(b: Bridge, x: usize) -> usize
+    requires { (1 ≤ b.first) × (b.first ≤ b.second) × (b.second ≤ 8) × (x < 256) }
+    ensures { result ≡ bridge_row b x }
+{
+    let both = (x >> (b.first - 1)) % 2 * ((x >> (b.second - 1)) % 2) == 1;
+    let first = Pair {
+        line: b.first,
+        value: both,
+    };
+    let second = Pair {
+        line: b.second,
+        value: both,
+    };
+    pair_row(second, pair_row(first, x))
+}
+
+// Row x under the fault's bridge, where it has one.
+#[tactic(auto, unfolding(crate::specs::TableRows::bridge_row))]
 fn bridge_row(f: Fault, x: usize) -> usize
     requires { OfInputs 8 f × (x < 256) }
     ensures { result ≡ bridge_row f.bridge x }
 {
     match f.kind {
-        FaultKind::Bridged(b) => {
-            let both = (x >> (b.first - 1)) % 2 * ((x >> (b.second - 1)) % 2) == 1;
-            let first = Pair {
-                line: b.first,
-                value: both,
-            };
-            let second = Pair {
-                line: b.second,
-                value: both,
-            };
-            pair_row(second, pair_row(first, x))
-        }
-        FaultKind::Sound | FaultKind::Stuck(..) => x,
+        FaultKind::Bridged(b) => joined_row(b, x),
+        FaultKind::Unstated(_, _, _, b) if b.first != 0 => joined_row(b, x),
+        FaultKind::Sound | FaultKind::Stuck(..) | FaultKind::Unstated(..) => x,
     }
 }
 

@@ -13,9 +13,9 @@ use statements::{Fault, Head, Output};
 use std::marker::Model;
 
 /// The circuit of an accepted text. In contracts a circuit is its netlist.
-#[derive(Drop)]
+#[derive(Clone, Copy)]
 pub struct Circuit {
-    // each array is in use as far as the head says: there is no heap
+    // each array is in use as far as the head says, with none past it: there is no heap
     head: Head,
     gates: [Gate; 48],
     outputs: [Output; 4],
@@ -27,14 +27,49 @@ impl Model for Circuit {
 
     ghost Value = { Netlist };
 
-    ghost use Rattle.netlist.specs.CircuitArrays.{netlist_of, Accepted};
+    ghost use Rattle.netlist.specs.CircuitArrays.{netlist_of, Accepted, circuit_arrays, circuit-back};
 
     ghost view = { netlist_of };
 
     ghost invariant = { Accepted };
+
+    ghost inverse = { circuit_arrays };
+
+    ghost inverse_ok = { circuit-back };
 }
 
 impl Circuit {
+    /// The circuit of these parts, as a text would state it.
+    pub fn new(
+        inputs: usize,
+        gates: &[Gate],
+        outputs: &[Output],
+        faults: &[Fault],
+        cap: usize,
+    ) -> Circuit
+        requires { WellFormed (record { inputs = inputs; gates = gates.now; outputs = outputs.now; faults = faults.now; cap = cap }) }
+        ensures { result ≡ record { inputs = inputs; gates = gates.now; outputs = outputs.now; faults = faults.now; cap = cap } }
+    {
+        let mut padded_gates = [Gate::NONE; 48];
+        padded_gates[..gates.len()].copy_from_slice(gates);
+        let mut padded_outputs = [Output::NONE; 4];
+        padded_outputs[..outputs.len()].copy_from_slice(outputs);
+        let mut padded_faults = [Fault::SOUND; 32];
+        padded_faults[..faults.len()].copy_from_slice(faults);
+        Circuit {
+            head: Head {
+                inputs,
+                gates: gates.len(),
+                outputs: outputs.len(),
+                faults: faults.len(),
+                cap,
+            },
+            gates: padded_gates,
+            outputs: padded_outputs,
+            faults: padded_faults,
+        }
+    }
+
     pub fn inputs(&self) -> usize
         ensures value { result ≡ self.now.inputs }
         ensures well_formed { WellFormed self.now }

@@ -3,6 +3,7 @@ ghost use Rattle.std.specs.Prelude.{◌≡◌, ◌^◌, ◌<◌, ◌≤◌, IsNo
 ghost use Rattle.cover.specs.Cover.{first_unchanged};
 ghost use Rattle.cover.specs.Order.{labels_below};
 ghost use Rattle.cover.specs.Steps.{masks_of};
+ghost use Rattle.devices.specs.Forms.{problem_of};
 ghost use Rattle.devices.specs.Problems.{Proper};
 ghost use Rattle.planner.specs.PlanCall.{silent_first, verdict_of, working_numbers, plan_numbers, plan_verdict, plan_answer, planned_as, WorkKept};
 
@@ -20,10 +21,10 @@ fn mark_faults(
     labels: &[u32],
     masks: &mut [u32],
 ) -> Option<usize>
-    requires lengths { (length faulted.old ≡ 2 ^ d.now.inputs) × (length masks.old ≡ 2 ^ d.now.inputs) }
-    requires sound_value { (sound.now ≡ d.now.sound) × (labels.now ≡ labels_below (2 ^ d.now.inputs)) }
-    ensures unchanged { MatchOption result (length d.now.faulted ≤ first_unchanged d.now.sound d.now.faulted) (λ f. (f ≡ first_unchanged d.now.sound d.now.faulted) × (f < length d.now.faulted)) }
-    ensures marked { IsNone result → masks.new ≡ masks_of d.now.sound d.now.faulted (labels_below (2 ^ d.now.inputs)) (length d.now.faulted) }
+    requires lengths { (length faulted.old ≡ 2 ^ (problem_of d.now).inputs) × (length masks.old ≡ 2 ^ (problem_of d.now).inputs) }
+    requires sound_value { (sound.now ≡ (problem_of d.now).sound) × (labels.now ≡ labels_below (2 ^ (problem_of d.now).inputs)) }
+    ensures unchanged { MatchOption result (length (problem_of d.now).faulted ≤ first_unchanged (problem_of d.now).sound (problem_of d.now).faulted) (λ f. (f ≡ first_unchanged (problem_of d.now).sound (problem_of d.now).faulted) × (f < length (problem_of d.now).faulted)) }
+    ensures marked { IsNone result → masks.new ≡ masks_of (problem_of d.now).sound (problem_of d.now).faulted (labels_below (2 ^ (problem_of d.now).inputs)) (length (problem_of d.now).faulted) }
 {
     let inputs = d.inputs() as u32;
     cover::clear(masks);
@@ -38,9 +39,9 @@ fn mark_faults(
 
 // The first silent fault, where the first that leaves every row as it was is `from`: those before it change a row, and so an output.
 fn silent_from(d: &Device, from: usize, sound: &mut [i32], faulted: &mut [i32]) -> Option<usize>
-    requires lengths { (length sound.old ≡ 2 ^ d.now.inputs) × (length faulted.old ≡ 2 ^ d.now.inputs) }
-    requires first { (from ≡ first_unchanged d.now.sound d.now.faulted) × (from ≤ length d.now.faulted) × Proper d.now }
-    ensures { MatchOption result (length d.now.faulted ≤ silent_first d.now) (λ f. (f ≡ silent_first d.now) × (f < length d.now.faulted)) }
+    requires lengths { (length sound.old ≡ 2 ^ (problem_of d.now).inputs) × (length faulted.old ≡ 2 ^ (problem_of d.now).inputs) }
+    requires first { (from ≡ first_unchanged (problem_of d.now).sound (problem_of d.now).faulted) × (from ≤ length (problem_of d.now).faulted) × Proper (problem_of d.now) }
+    ensures { MatchOption result (length (problem_of d.now).faulted ≤ silent_first (problem_of d.now)) (λ f. (f ≡ silent_first (problem_of d.now)) × (f < length (problem_of d.now).faulted)) }
 {
     d.outputs(0, sound);
     for f in from..d.faults() {
@@ -60,10 +61,10 @@ fn plan_by(
     labels: &[u32],
     masks: &mut [u32],
 ) -> Result<LabelSet, Refusal>
-    requires lengths { (length sound.old ≡ 2 ^ d.now.inputs) × (length faulted.old ≡ 2 ^ d.now.inputs) × (length masks.old ≡ 2 ^ d.now.inputs) }
-    requires labels_value { labels.now ≡ labels_below (2 ^ d.now.inputs) }
-    requires proper { Proper d.now }
-    ensures { planned_as result ≡ plan_numbers (verdict_of d.now) }
+    requires lengths { (length sound.old ≡ 2 ^ (problem_of d.now).inputs) × (length faulted.old ≡ 2 ^ (problem_of d.now).inputs) × (length masks.old ≡ 2 ^ (problem_of d.now).inputs) }
+    requires labels_value { labels.now ≡ labels_below (2 ^ (problem_of d.now).inputs) }
+    requires proper { Proper (problem_of d.now) }
+    ensures { planned_as result ≡ plan_numbers (verdict_of (problem_of d.now)) }
 {
     d.rows(0, sound);
     if let Some(unchanged) = mark_faults(d, sound, faulted, labels, masks) {
@@ -81,8 +82,8 @@ fn plan_by(
 /// The plan of a device; or 13 with the first silent fault, 16 with the first hidden one, 14. One mask a label is all that it uses of the working numbers.
 pub fn plan_device(d: &Device, work: &mut [u32]) -> Result<LabelSet, Refusal>
     requires { working_numbers ≤ length work.old }
-    ensures value { planned_as result ≡ plan_numbers (verdict_of d.now) }
-    ensures work_kept { WorkKept (verdict_of d.now) work.old work.new }
+    ensures value { planned_as result ≡ plan_numbers (verdict_of (problem_of d.now)) }
+    ensures work_kept { WorkKept (verdict_of (problem_of d.now)) work.old work.new }
 {
     let due: usize = 1 << d.inputs();
     let labels = cover::labels_below(due);

@@ -7,6 +7,7 @@ ghost use Rattle.planner.specs.PlanCall.{working_numbers, plan_verdict, WorkKept
 ghost use Rattle.writing.specs.Writing.{placed};
 ghost use Rattle.report_lines.specs.ReportLines.{report_bytes, plan_lines};
 ghost use Rattle.report.specs.ReportCall.{report_of, report_answer, report_left, report_verdict, reported_as};
+ghost use Rattle.devices.specs.Forms.{problem_of};
 
 use devices::Device;
 use planner::WORKING_NUMBERS;
@@ -17,10 +18,10 @@ pub const REPORT_BYTES: usize = 1024;
 
 // All lines of a plan, from the front on, as `writing` does it.
 fn plan_lines(d: &Device, labels: &[u32], out: &mut [u8]) -> usize
-    requires labels_low { Below (2 ^ d.now.inputs) labels.now × (length labels.now ≤ 4) }
+    requires labels_low { Below (2 ^ (problem_of d.now).inputs) labels.now × (length labels.now ≤ 4) }
     requires report_bytes_in_bounds { report_bytes ≤ length out.old }
-    ensures value { result ≡ length (plan_lines d.now.sound d.now.faulted labels.now) }
-    ensures out_after { out.new ≡ placed 0 (plan_lines d.now.sound d.now.faulted labels.now) out.old }
+    ensures value { result ≡ length (plan_lines (problem_of d.now).sound (problem_of d.now).faulted labels.now) }
+    ensures out_after { out.new ≡ placed 0 (plan_lines (problem_of d.now).sound (problem_of d.now).faulted labels.now) out.old }
 {
     let due: usize = 1 << d.inputs();
     let mut space = [0i32; 256];

@@ -5,6 +5,7 @@
 ghost use Rattle.std.specs.Prelude.{◌≡◌, ◌+◌, ◌*◌, ◌≤◌, ◌<◌, ◌^◌, length};
 ghost use Rattle.integer.specs.Tab.{Within};
 ghost use Rattle.integer.specs.ListTests.{Below};
+ghost use Rattle.devices.specs.Forms.{problem_of};
 ghost use Rattle.devices.specs.Problems.{Proper};
 ghost use Rattle.refusals.specs.Refusals.{refusal_number, refusal_place};
 ghost use Rattle.writing.specs.Writing.{placed, gather};
@@ -62,10 +63,10 @@ pub fn fault_lines(
     out: &mut [u8],
     at: usize,
 ) -> usize
-    requires proper { Proper d.now × Below (2 ^ d.now.inputs) labels.now }
-    requires sound_value { (sound.now ≡ spectrum_of d.now.sound) × (length faulted.old ≡ 2 ^ d.now.inputs) × (at + 640 ≤ length out.old) }
-    ensures value { result ≡ at + length (gather (fault_report_line d.now.sound d.now.faulted labels.now) (length d.now.faulted)) }
-    ensures out_after { out.new ≡ placed at (gather (fault_report_line d.now.sound d.now.faulted labels.now) (length d.now.faulted)) out.old }
+    requires proper { Proper (problem_of d.now) × Below (2 ^ (problem_of d.now).inputs) labels.now }
+    requires sound_value { (sound.now ≡ spectrum_of (problem_of d.now).sound) × (length faulted.old ≡ 2 ^ (problem_of d.now).inputs) × (at + 640 ≤ length out.old) }
+    ensures value { result ≡ at + length (gather (fault_report_line (problem_of d.now).sound (problem_of d.now).faulted labels.now) (length (problem_of d.now).faulted)) }
+    ensures out_after { out.new ≡ placed at (gather (fault_report_line (problem_of d.now).sound (problem_of d.now).faulted labels.now) (length (problem_of d.now).faulted)) out.old }
 {
     let mut end = at;
     for f in 0..d.faults() {

@@ -11,13 +11,12 @@ use columns::{Column, Seen, Values};
 use netlist::Circuit;
 use statements::{Fault, FaultKind, Output};
 
-// Which bit of a row an input is; past the last input a bit that no row has, since `rows` promises its equation for every fault.
+// Which bit of a row an input is, of input 0 the first; past the last input a bit that no row has, since `rows` promises its equation for every fault.
 #[tactic(auto, unfolding(crate::specs::Steps::row_bit_of))]
 fn row_bit(input: u16) -> usize
-    requires { 1 ≤ input }
     ensures { (result ≡ row_bit_of input) × (result ≤ 8) }
 {
-    usize::from(input.min(9) - 1)
+    usize::from(input.min(9).saturating_sub(1))
 }
 
 // The bits whose AND input i, from 0, gets: those of the bridge's inputs where a bridge joins it, else its own twice.
@@ -29,7 +28,8 @@ fn sources(f: Fault, i: usize) -> (usize, usize)
 {
     let line = i + 1;
     match f.kind {
-        FaultKind::Bridged(b) if (b.first as usize == line) | (b.second as usize == line) => {
+        FaultKind::Bridged(b) | FaultKind::Unstated(_, _, _, b)
+            if (b.first as usize == line) | (b.second as usize == line) => {
             (row_bit(b.first), row_bit(b.second))
         }
         _ => (i, i),

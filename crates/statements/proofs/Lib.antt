@@ -1,3 +1,4 @@
+pub mod EveryFault
 pub mod LineNumbers
 pub mod FormsMeant
 pub mod UnsignedWeights

@@ -9,6 +9,7 @@ ghost use Rattle.text.specs.Text.{field_count};
 ghost use Rattle.fields.specs.Fields.{in_range, value_at};
 ghost use Rattle.refusals.specs.Refusals.{Says};
 ghost use Rattle.statements.specs.Items.{Fault};
+ghost use Rattle.statements.specs.FaultKinds.{is_free, free_or_named, pair_there, kind_of_fault};
 ghost use Rattle.statements.specs.Lines.{head_refusal, head_of, is_output, output_refusal, output_of, is_fault, fault_refusal, fault_of, bridge_refusal, bridge_of, fault_line_refusal, fault_line_of};
 
 use refusals::Flaw;
@@ -42,6 +43,8 @@ pub enum FaultKind {
     Sound,
     Stuck(Pair, Option<Pair>, Option<Pair>),
     Bridged(Bridge),
+    // What no text states, as pairs beside a bridge: as the definitions have it, where line 0 names none.
+    Unstated(Pair, Pair, Pair, Bridge),
 }
 
 // Contracts see the definitions' fault, whose pairs and bridge that are not there name line 0. A struct around the enum, since no enum has a model.
@@ -87,6 +90,57 @@ impl Fault {
     pub const SOUND: Fault = Fault {
         kind: FaultKind::Sound,
     };
+
+    /// The fault of these pairs and this bridge, where line 0 names none.
+    #[tactic(auto, using(crate::proofs::EveryFault::kind_stands))]
+    pub fn new(first: Pair, second: Pair, third: Pair, bridge: Bridge) -> Fault
+        ensures { result ≡ record { first = first; second = second; third = third; bridge = bridge } }
+    {
+        Fault {
+            kind: kind_of(first, second, third, bridge),
+        }
+    }
+}
+
+impl Pair {
+    // Whether it is none.
+    fn is_free(self) -> bool
+        ensures { result ≡ is_free self }
+    {
+        self.line == 0 && !self.value
+    }
+
+    // Whether it is none, or names a line.
+    fn is_free_or_named(self) -> bool
+        ensures { result ≡ free_or_named self }
+    {
+        self.line != 0 || !self.value
+    }
+
+    fn there(self) -> Option<Pair>
+        ensures { result ≡ pair_there self }
+    {
+        if self.line == 0 { None } else { Some(self) }
+    }
+}
+
+// The case that stands for the fault of these pairs and this bridge.
+fn kind_of(first: Pair, second: Pair, third: Pair, bridge: Bridge) -> FaultKind
+    ensures { result ≡ kind_of_fault (record { first = first; second = second; third = third; bridge = bridge }) }
+{
+    let free = first.is_free() && second.is_free() && third.is_free();
+    if bridge.first != 0 && bridge.second != 0 && free {
+        return FaultKind::Bridged(bridge);
+    }
+    if bridge.first == 0 && bridge.second == 0 {
+        if first.line != 0 && second.is_free_or_named() && third.is_free_or_named() {
+            return FaultKind::Stuck(first, second.there(), third.there());
+        }
+        if free {
+            return FaultKind::Sound;
+        }
+    }
+    FaultKind::Unstated(first, second, third, bridge)
 }
 
 // LINE,VALUE as the fields have them.

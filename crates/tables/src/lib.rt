@@ -22,9 +22,9 @@ struct TableHead {
 // It has the shape of `netlist::Circuit`: a head and arrays with a model, and methods that hand parts out. One struct for both would take the marks or the gates and
 // outputs, the head, the model and its invariant as parameters, to share four methods of one line.
 /// The table of an accepted text. In contracts a table is its truth table.
-#[derive(Drop)]
+#[derive(Clone, Copy)]
 pub struct Table {
-    // the marks are doubled, one for each row: 0, 1 for a free row, 2; each array is in use as far as the head says: there is no heap
+    // the marks are doubled, one for each row: 0, 1 for a free row, 2; each array is in use as far as the head says, with none past it: there is no heap
     head: TableHead,
     marks: [u8; 256],
     faults: [Fault; 32],
@@ -35,14 +35,38 @@ impl Model for Table {
 
     ghost Value = { TruthTable };
 
-    ghost use Rattle.tables.specs.TableArrays.{truth_table_of, AcceptedTable};
+    ghost use Rattle.tables.specs.TableArrays.{truth_table_of, AcceptedTable, table_arrays, table-back};
 
     ghost view = { truth_table_of };
 
     ghost invariant = { AcceptedTable };
+
+    ghost inverse = { table_arrays };
+
+    ghost inverse_ok = { table-back };
 }
 
 impl Table {
+    /// The table of these parts, as a text would state it; the marks are doubled: 0, 1 for a free row, 2.
+    pub fn new(inputs: usize, marks: &[u8], faults: &[Fault], cap: usize) -> Table
+        requires { TableRight (record { inputs = inputs; marks = marks.now; faults = faults.now; cap = cap }) }
+        ensures { result ≡ record { inputs = inputs; marks = marks.now; faults = faults.now; cap = cap } }
+    {
+        let mut padded_marks = [0; 256];
+        padded_marks[..marks.len()].copy_from_slice(marks);
+        let mut padded_faults = [Fault::SOUND; 32];
+        padded_faults[..faults.len()].copy_from_slice(faults);
+        Table {
+            head: TableHead {
+                inputs,
+                faults: faults.len(),
+                cap,
+            },
+            marks: padded_marks,
+            faults: padded_faults,
+        }
+    }
+
     pub fn inputs(&self) -> usize
         ensures value { result ≡ self.now.inputs }
         ensures right { TableRight self.now }

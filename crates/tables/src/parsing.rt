@@ -1,5 +1,6 @@
 // The text of a table, line by line.
 ghost use Rattle.std.specs.Prelude.{◌≡◌, ◌^◌, ◌≤◌, true, false, take, MatchOption, MatchResult};
+ghost use Rattle.integer.specs.Padded.{padded};
 ghost use Rattle.refusals.specs.Refusals.{flaw_number, Says, told};
 ghost use Rattle.tables.specs.TableLines.{is_table, table_head_refusal, table_head_of, is_mark, doubled_mark, mark_refusal, marks_of};
 ghost use Rattle.tables.specs.TableParsing.{accepted_table, rejected_table, table_body, table_of};
@@ -48,10 +49,11 @@ fn doubled(mark: u8) -> Option<u8>
     }
 }
 
-// The doubled marks of a line of 2^N, without its end, at the front of the result: there is no heap for a list of so many.
+// The doubled marks of a line of 2^N, without its end, at the front of the result, with 0 past them: there is no heap for a list of so many.
 fn mark_line(line: &[u8], inputs: usize) -> Result<[u8; 256], Flaw>
     requires { inputs ≤ 8 }
-    ensures { MatchResult result (λ marks. (mark_refusal inputs line.now ≡ 0) × (take (2 ^ inputs) marks ≡ marks_of line.now)) (λ flaw. flaw_number flaw ≡ mark_refusal inputs line.now) }
+    ensures { MatchResult result (λ marks. (mark_refusal inputs line.now ≡ 0) × (take (2 ^ inputs) marks ≡ marks_of line.now) × (marks ≡ padded 256 0 (take (2 ^ inputs) marks)))
+        (λ flaw. flaw_number flaw ≡ mark_refusal inputs line.now) }
 {
     let due: usize = 1 << inputs;
     if line.len() != due {

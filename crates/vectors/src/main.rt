@@ -139,9 +139,7 @@ fn read_full(rt: &HostRuntime, space: &mut [u8]) -> usize
 
 // Reads the case that the head says, and tries it.
 fn next_holds(rt: &HostRuntime, head: &[u8; 54], space: &mut [u8]) -> bool {
-    let Some(h) = cases::heads::read(head) else {
-        return false;
-    };
+    let h = cases::heads::read(head);
     let size = h.text + 12 * (h.list + h.first + h.second) + h.due;
     size <= space.len()
         && read_full(rt, &mut space[..size]) == size
@@ -155,9 +153,12 @@ struct Tally {
     wrong: u64,
 }
 
+// It stops at so many cases, so that it ends on every input.
+const MOST_CASES: u64 = 1_000_000;
+
 fn try_all(rt: &HostRuntime, space: &mut [u8]) -> Tally {
     let mut t = Tally { cases: 0, wrong: 0 };
-    for _ in 0..u64::MAX {
+    for _ in 0..MOST_CASES {
         let mut head = [0u8; 54];
         if read_full(rt, &mut head) == 0 {
             break;

@@ -120,6 +120,26 @@ fn cut_files_differ() {
     }
 }
 
+/// What a head says of what is lent is not needed to find the next case, so of a damaged
+/// room or number of working numbers the case is read, and differs alone.
+#[test]
+fn cases_after_a_damaged_head_are_found() {
+    let count = CASES.len();
+    for number in [4, 5] {
+        let mut file: Vec<u8> = CASES.iter().flat_map(Case::bytes).collect();
+        let last_digit = 12 + 6 * number + 4;
+        file[last_digit] = b'x';
+        assert_eq!(said(file), format!("{count} cases, 1 differ\n"), "{number}");
+    }
+}
+
+/// It ends on an input without an end: here there is one case more than it takes.
+#[test]
+fn a_million_cases_are_taken() {
+    let file = vec![b'\n'; 54 * 1_000_001];
+    assert_eq!(said(file), "1000000 cases, 1000000 differ\n");
+}
+
 /// How often each outcome of the call came on texts that are chosen.
 fn seen(call: &str, chosen: fn(&[u8]) -> bool) -> Outcomes {
     let mut outcomes = Outcomes::default();

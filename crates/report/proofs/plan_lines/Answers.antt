@@ -2,6 +2,7 @@
 use Rattle.std.proofs.Common.{rules, ◌≡◌, ◌+◌, ◌<◌, arith, length}
 use Rattle.transform.specs.Spectrum.{spectrum_of}
 use Rattle.writing.specs.Writing.{placed, gather}
+use Rattle.devices.specs.Forms.{problem_of}
 use Rattle.report_lines.specs.ReportLines.{plan_line, label_line}
 use Rattle.report_lines.proofs.ReportLines.{spectrum-left, spectrum-ready, label-lines-same, plan-length, plan-read, read-room, read-written}
 use Rattle.report.proofs.ReportLaws.{labels-room, faults-room, plan-written}
@@ -9,9 +10,9 @@ use Rattle.report.proofs.plan_lines.Goals as goal
 use Rattle.report.proofs.plan_lines.Goals.{After-fault_spectrum, After-put_line-at, After-label_lines-labels_end}
 
 -- the sound spectrum, and what the first call writes, and the second, in the words of the definitions
-spectrum : (c : After-fault_spectrum) → c.fault_spectrum.new.out ≡ spectrum_of c.args.d.now.sound
+spectrum : (c : After-fault_spectrum) → c.fault_spectrum.new.out ≡ spectrum_of (problem_of c.args.d.now).sound
 spectrum c =
-    let d = c.args.d.now in
+    let d = problem_of c.args.d.now in
     spectrum-left d.inputs d.sound _ (search rules) (c.inputs-due.ensures.proper.rows_all 0 (omega arith)) c.fault_spectrum.ensures.value c.fault_spectrum.ensures.out_after
 
 first : (c : After-put_line-at) → let line = plan_line (length c.args.labels.now) in (c.put_line-at.result ≡ 0 + length line) × (c.put_line-at.new.out ≡ placed 0 line c.args.out.now)
@@ -19,10 +20,10 @@ first c =
     let size = length c.args.labels.now in
     read-written 0 _ (plan_line size) c.args.out.now (plan-read size (omega (arith, c.requires.labels_low.1))) (c.put_line-at.ensures.value, c.put_line-at.ensures.out_after)
 
-second : (c : After-label_lines-labels_end) → c.fault_spectrum.new.out ≡ spectrum_of c.args.d.now.sound → let lines = gather (label_line c.args.d.now.sound c.args.labels.now) (length c.args.labels.now) in
+second : (c : After-label_lines-labels_end) → c.fault_spectrum.new.out ≡ spectrum_of (problem_of c.args.d.now).sound → let lines = gather (label_line (problem_of c.args.d.now).sound c.args.labels.now) (length c.args.labels.now) in
     (c.label_lines-labels_end.result ≡ c.put_line-at.result + length lines) × (c.label_lines-labels_end.new.out ≡ placed c.put_line-at.result lines c.put_line-at.new.out)
 second c sound =
-    let d = c.args.d.now in
+    let d = problem_of c.args.d.now in
     let labels = c.args.labels.now in
     let w = c.inputs-due.ensures.proper in
     let e = c.label_lines-labels_end.ensures in
@@ -37,7 +38,7 @@ put_line-at-requires c =
 
 pub label_lines-labels_end-requires : goal.label_lines-labels_end-requires
 label_lines-labels_end-requires c =
-    let d = c.args.d.now in
+    let d = problem_of c.args.d.now in
     let w = c.inputs-due.ensures.proper in
     let labels = c.args.labels.now in
     let r = c.requires.labels_low in
@@ -47,7 +48,7 @@ label_lines-labels_end-requires c =
 
 pub fault_lines-requires-clause-sound_value : goal.fault_lines-requires-clause-sound_value
 fault_lines-requires-clause-sound_value c =
-    let d = c.args.d.now in
+    let d = problem_of c.args.d.now in
     let r = c.requires.labels_low in
     let paths = goal.at.fault_lines-requires-clause-sound_value c in
     let sound = spectrum paths.After-fault_spectrum in
@@ -56,7 +57,7 @@ fault_lines-requires-clause-sound_value c =
 
 pub returns : goal.returns
 returns c =
-    let d = c.args.d.now in
+    let d = problem_of c.args.d.now in
     let r = c.requires.labels_low in
     let paths = goal.at.returns c in
     let one = first paths.After-put_line-at in

@@ -1,24 +1,25 @@
 use Rattle.std.proofs.Common.{◌∙◌, arith}
+use Rattle.devices.specs.Forms.{problem_of}
 use Rattle.report_lines.proofs.ReportLines.{spectra-ready, FaultRead, fault-read, no-fault, fault-fits, fault-more}
 use Rattle.report_lines.proofs.fault_lines.Goals as goal
 use Rattle.report_lines.proofs.fault_lines.Goals.{After-first_covering-label}
 
 -- the line of the fault, with the label that was found
-read : (c : After-first_covering-label) → FaultRead c.args.d.now c.args.labels.now c.loop-f.f c.first_covering-label.result c.fault_spectrum.new.out
+read : (c : After-first_covering-label) → FaultRead (problem_of c.args.d.now) c.args.labels.now c.loop-f.f c.first_covering-label.result c.fault_spectrum.new.out
 read c =
     let r = c.requires in
-    fault-read c.args.d.now r.proper.0 c.args.labels.now r.proper.1 c.loop-f.f (omega arith) c.loop-f.faulted r.sound_value.0 (c.loop-f.auto.faulted ∙ r.sound_value.1)
+    fault-read (problem_of c.args.d.now) r.proper.0 c.args.labels.now r.proper.1 c.loop-f.f (omega arith) c.loop-f.faulted r.sound_value.0 (c.loop-f.auto.faulted ∙ r.sound_value.1)
     c.fault_spectrum.ensures.value c.fault_spectrum.ensures.out_after c.first_covering-label.ensures
 
 pub loop-f-init : goal.loop-f-init
 loop-f-init c =
     let r = c.requires in
-    no-fault c.args.d.now r.proper.0 c.args.labels.now r.proper.1 c.args.at c.args.out.now r.sound_value.2
+    no-fault (problem_of c.args.d.now) r.proper.0 c.args.labels.now r.proper.1 c.args.at c.args.out.now r.sound_value.2
 
 pub first_covering-label-requires : goal.first_covering-label-requires
 first_covering-label-requires c =
     let r = c.requires in
-    spectra-ready c.args.d.now r.proper.0 c.args.labels.now r.proper.1 c.loop-f.f (omega arith) c.loop-f.faulted r.sound_value.0 (c.loop-f.auto.faulted ∙ r.sound_value.1)
+    spectra-ready (problem_of c.args.d.now) r.proper.0 c.args.labels.now r.proper.1 c.loop-f.f (omega arith) c.loop-f.faulted r.sound_value.0 (c.loop-f.auto.faulted ∙ r.sound_value.1)
     c.fault_spectrum.ensures.value c.fault_spectrum.ensures.out_after
 
 pub overflow_cast-numbers-in-loop-f : goal.overflow_cast-numbers-in-loop-f
@@ -32,12 +33,12 @@ slice_copy_out-numbers c = (read (goal.at.slice_copy_out-numbers c).After-first_
 pub put_line-end-requires : goal.put_line-end-requires
 put_line-end-requires c =
     let r = c.requires in
-    fault-fits c.args.d.now r.proper.0 c.args.labels.now r.proper.1 c.args.at c.args.out.now r.sound_value.2 c.loop-f.invariant (omega arith) _
+    fault-fits (problem_of c.args.d.now) r.proper.0 c.args.labels.now r.proper.1 c.args.at c.args.out.now r.sound_value.2 c.loop-f.invariant (omega arith) _
     (read (goal.at.put_line-end-requires c).After-first_covering-label).2
 
 pub loop-f-preserved : goal.loop-f-preserved
 loop-f-preserved c =
     let r = c.requires in
     let e = c.put_line-end.ensures in
-    fault-more c.args.d.now r.proper.0 c.args.labels.now r.proper.1 c.args.at c.args.out.now r.sound_value.2 c.loop-f.invariant (omega arith) _
+    fault-more (problem_of c.args.d.now) r.proper.0 c.args.labels.now r.proper.1 c.args.at c.args.out.now r.sound_value.2 c.loop-f.invariant (omega arith) _
     (read (goal.at.loop-f-preserved c).After-first_covering-label).2 e.value e.out_after

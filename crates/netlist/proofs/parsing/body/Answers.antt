@@ -1,8 +1,9 @@
-use Rattle.std.proofs.Common.{rules, arith, refl, ◌≡◌, List, ◌++◌, take, ◌∙◌}
+use Rattle.std.proofs.Common.{rules, arith, refl, ◌≡◌, List, ◌++◌, length, take, ◌∙◌}
 use Rattle.std.proofs.lemmas.List.{length-take-le}
-use Rattle.statements.specs.Items.{Fault}
+use Rattle.integer.proofs.Arrays.{padded-front}
+use Rattle.statements.specs.Items.{Fault, no_output, sound}
 use Rattle.statements.specs.declared.Output.{Output}
-use Rattle.gate_lines.specs.GateItems.{Gate}
+use Rattle.gate_lines.specs.GateItems.{Gate, no_gate}
 use Rattle.sections.specs.Sections.{items}
 use Rattle.sections.proofs.HandedOn.{handed-on}
 use Rattle.sections.proofs.LineLoops.{lines-told, lines-stored}
@@ -25,15 +26,25 @@ faults-read : (c : In_ok-rest) → items c.read_lines-3.new.out c.in_ok-rest.res
 unfolding faults_in
 faults-read c = lines-told _ _ _ _ _ _ (omega arith) c.in_ok-rest.ensures
 
+-- as many as the head says
+gates-counted : (c : In_ok-after_gates) → length c.read_lines.new.out ≡ c.args.head.gates
+gates-counted c = c.read_lines.auto.out ∙ length-take-le c.args.head.gates _ (omega arith)
+
+outputs-counted : (c : In_ok-after_outputs) → length c.read_lines-2.new.out ≡ c.args.head.outputs
+outputs-counted c = c.read_lines-2.auto.out ∙ length-take-le c.args.head.outputs _ (omega arith)
+
+faults-counted : (c : In_ok-rest) → length c.read_lines-3.new.out ≡ c.args.head.faults
+faults-counted c = c.read_lines-3.auto.out ∙ length-take-le c.args.head.faults _ (omega arith)
+
 -- each stands at the front of its array
 gates-stored : (c : In_ok-after_gates) (rest : List Gate) → take c.args.head.gates (c.read_lines.new.out ++ rest) ≡ c.read_lines.new.out
-gates-stored c rest = lines-stored c.args.head.gates _ _ (c.read_lines.auto.out ∙ length-take-le c.args.head.gates _ (omega arith))
+gates-stored c rest = lines-stored c.args.head.gates _ _ (gates-counted c)
 
 outputs-stored : (c : In_ok-after_outputs) (rest : List Output) → take c.args.head.outputs (c.read_lines-2.new.out ++ rest) ≡ c.read_lines-2.new.out
-outputs-stored c rest = lines-stored c.args.head.outputs _ _ (c.read_lines-2.auto.out ∙ length-take-le c.args.head.outputs _ (omega arith))
+outputs-stored c rest = lines-stored c.args.head.outputs _ _ (outputs-counted c)
 
 faults-stored : (c : In_ok-rest) (rest : List Fault) → take c.args.head.faults (c.read_lines-3.new.out ++ rest) ≡ c.read_lines-3.new.out
-faults-stored c rest = lines-stored c.args.head.faults _ _ (c.read_lines-3.auto.out ∙ length-take-le c.args.head.faults _ (omega arith))
+faults-stored c rest = lines-stored c.args.head.faults _ _ (faults-counted c)
 
 pub returns-in_err-after_gates : goal.returns-in_err-after_gates
 unfolding gates_in
@@ -74,6 +85,9 @@ invariant_of-result c =
       well_formed = body-well-formed c.args.head r c.args.text.now _ (
           all_read c.args.head c.args.text.now c.in_ok-after_gates.after_gates.now (gates-read g) c.in_ok-after_outputs.after_outputs.now (outputs-read o)
           c.in_ok-rest.rest.now (faults-read f) (search rules) _ refl (gates-stored g _) (outputs-stored o _) (faults-stored f _));
+      gates-padded = padded-front 48 c.args.head.gates no_gate c.read_lines.new.out (gates-counted g);
+      outputs-padded = padded-front 4 c.args.head.outputs no_output c.read_lines-2.new.out (outputs-counted o);
+      faults-padded = padded-front 32 c.args.head.faults sound c.read_lines-3.new.out (faults-counted f);
     }
 
 pub returns : goal.returns

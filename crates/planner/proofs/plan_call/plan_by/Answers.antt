@@ -1,5 +1,6 @@
 -- With every fault marked, what the search by masks finds is the signature.
 use Rattle.std.proofs.Common.{refl, ap}
+use Rattle.devices.specs.Forms.{problem_of}
 use Rattle.planner.specs.PlanCall.{plan_numbers}
 use Rattle.planner.proofs.PlanLaws.{all-marked, may-find, verdict-silent, verdict-hidden, verdict-chosen}
 use Rattle.planner.proofs.plan_call.plan_by.Goals as goal
@@ -7,7 +8,7 @@ use Rattle.planner.proofs.plan_call.plan_by.Goals.{in-Some-silent_from, in-None}
 
 pub returns-in-Some : goal.returns-in-Some
 returns-in-Some c =
-    let d = c.args.d.now in
+    let d = problem_of c.args.d.now in
     let u = c.in-Some.ensures.unchanged in
     elim c.match-silent_from.branch [
       | in-Some-silent_from w ↦ rw w.result-is (ap plan_numbers (verdict-silent d w.in-Some-silent_from.silent w.in-Some-silent_from.ensures.0 w.in-Some-silent_from.ensures.1))

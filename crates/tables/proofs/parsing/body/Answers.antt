@@ -1,6 +1,7 @@
-use Rattle.std.proofs.Common.{rules, arith, refl, ◌≡◌, List, ◌++◌, take, ◌∙◌}
+use Rattle.std.proofs.Common.{rules, arith, refl, ◌≡◌, List, ◌++◌, length, take, ◌∙◌}
 use Rattle.std.proofs.lemmas.List.{length-take-le}
-use Rattle.statements.specs.Items.{Fault}
+use Rattle.integer.proofs.Arrays.{padded-front}
+use Rattle.statements.specs.Items.{Fault, sound}
 use Rattle.sections.specs.Sections.{items}
 use Rattle.sections.proofs.HandedOn.{handed-on}
 use Rattle.sections.proofs.LineLoops.{lines-told, lines-stored}
@@ -15,8 +16,11 @@ faults-read : (c : In_ok-rest) → items c.read_lines.new.out c.in_ok-rest.rest.
 unfolding table_faults_in
 faults-read c = lines-told _ _ _ _ _ _ (omega arith) c.in_ok-rest.ensures
 
+faults-counted : (c : In_ok-rest) → length c.read_lines.new.out ≡ c.args.head.faults
+faults-counted c = c.read_lines.auto.out ∙ length-take-le c.args.head.faults _ (omega arith)
+
 faults-stored : (c : In_ok-rest) (rest : List Fault) → take c.args.head.faults (c.read_lines.new.out ++ rest) ≡ c.read_lines.new.out
-faults-stored c rest = lines-stored c.args.head.faults _ _ (c.read_lines.auto.out ∙ length-take-le c.args.head.faults _ (omega arith))
+faults-stored c rest = lines-stored c.args.head.faults _ _ (faults-counted c)
 
 pub returns-in_err-line : goal.returns-in_err-line
 returns-in_err-line c =
@@ -45,6 +49,8 @@ invariant_of-result c =
       right = table-body-well-formed c.args.head r c.args.text.now _ (
           table-all-read c.args.head c.args.text.now c.in_ok-line.after_marks.now c.in_ok-line.ensures (search rules) c.in_ok-rest.rest.now (faults-read f) (search rules)
           _ refl (search rules) (faults-stored f _));
+      marks-padded = search rules;
+      faults-padded = padded-front 32 c.args.head.faults sound c.read_lines.new.out (faults-counted f);
     }
 
 pub returns : goal.returns

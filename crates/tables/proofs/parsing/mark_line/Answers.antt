@@ -1,7 +1,7 @@
 use Rattle.std.proofs.Common.{rules, arith, ◌≡◌, ◌^◌, length, sym}
 use Rattle.integer.proofs.Machine.{due-is, due-few}
 use Rattle.sections.proofs.HandedOn.{handed-on}
-use Rattle.tables.proofs.MarksSoFar.{marks-begun, marks-turned, marks-short, mark-other, marks-passed, marks-kept}
+use Rattle.tables.proofs.MarksSoFar.{marks-begun, marks-turned, marks-short, mark-other, marks-passed, marks-kept, marks-padded}
 use Rattle.tables.proofs.parsing.mark_line.Goals as goal
 use Rattle.tables.proofs.parsing.mark_line.Goals.{Else-line-due}
 
@@ -13,7 +13,7 @@ long : (c : Else-line-due) → length c.args.line.now ≡ 2 ^ c.args.inputs
 long c = omega (arith, c.if-line-due.false, due-is c.args.inputs c.requires)
 
 pub loop-x-init : goal.loop-x-init
-loop-x-init c = marks-begun _ _ (search rules)
+loop-x-init c = marks-begun c.args.line.now
 
 pub returns-in_err-marks : goal.returns-in_err-marks
 returns-in_err-marks c =
@@ -29,4 +29,4 @@ loop-x-preserved c =
 pub returns : goal.returns
 returns c =
     let due = long (goal.at.returns c).Else-line-due in
-    (sym (marks-passed c.loop-x.invariant c.args.inputs due (search rules)), marks-kept c.loop-x.invariant c.args.inputs due (search rules))
+    (sym (marks-passed c.loop-x.invariant c.args.inputs due (search rules)), marks-kept c.loop-x.invariant c.args.inputs due (search rules), marks-padded c.loop-x.invariant c.args.inputs due (search rules) (omega (arith, due-is c.args.inputs c.requires, due-few c.args.inputs c.requires)))
