@@ -34,7 +34,7 @@ impl From<Table> for Device {
     }
 }
 
-// Each method asks which form it is. A trait over both would say these four promises a second time, and its two impls a third.
+// Each method asks which of the two it is. A trait over both would say these promises a second time, and its two impls a third.
 impl Device {
     pub fn inputs(&self) -> usize
         ensures value { result ≡ (problem_of self.now).inputs }

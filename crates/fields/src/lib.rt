@@ -2,7 +2,7 @@
 #![tactic(auto)]
 
 ghost use Rattle.std.specs.Prelude.{◌≡◌, ◌-◌, ◌≤◌};
-ghost use Rattle.fields.specs.Fields.{value_at, signed_value_at, numbers_from, is_line, in_range};
+ghost use Rattle.fields.specs.Fields.{value_at, signed_value_at, numbers_from, is_line, in_range, unless};
 
 // The number in field k, at most 9,999; 0 where there is none. No Option, which would be no plainer: the definition is total, and callers ask first whether
 // the fields are numbers.
@@ -43,4 +43,13 @@ pub fn in_range(v: u16, low: u16, high: u16) -> bool
     ensures { result ≡ in_range v low high }
 {
     (low..=high).contains(&v)
+}
+
+// The number of a test that fails, else what comes next: a line's tests are a chain of these for a caller with refusals of its own. The lines here use
+// `Flaw::unless`.
+#[tactic(auto, unfolding(crate::specs::Fields::unless))]
+pub fn number_unless(passed: bool, number: u32, next: u32) -> u32
+    ensures { result ≡ unless passed number next }
+{
+    if passed { next } else { number }
 }

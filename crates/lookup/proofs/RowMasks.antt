@@ -1,12 +1,13 @@
 -- Every row with its stuck inputs replaced from two of them:
 --   stuck-row-settled            an input of such a row is what it was in the row, or the same in every row
 --   stuck-row-masked             so rows 0 and 255 tell all others: row 0 what is set, and the bits in which they differ what is kept
---   masked_below, masked-rows    by these two masks, after the bridge, the code reads marks that are there, and writes the table's rows
+--   masked_below                 by these two masks rows of k inputs stay rows of k inputs
+--   marks-there, masked-rows     so, after the bridge, the code reads marks that are there, and writes the table's rows
 use mathlib.Core.Path.{◌≡◌, refl, sym, ap, ap₂, ◌∙◌, subst}
 use mathlib.Core.Bool.{Bool, true, false, xor, ◌&&◌, ◌||◌}
 use mathlib.Core.Logic.{◌⊎◌, inl, inr}
 use mathlib.Core.List.{List}
-use Prim.Native.Nat.{ℕ, ◌-◌, ◌^◌, ◌<◌}
+use Prim.Native.Nat.{ℕ, ◌-◌, ◌^◌, ◌<◌, ◌≤◌}
 use native.Mathlib.Nat.{mod-eq_of_lt}
 use native.Mathlib.Omega.{arith}
 use lib.Bits.{bit_and, bit_or, bit_xor, and_mask}
@@ -24,12 +25,11 @@ use Rattle.statements.specs.declared.Bridge.{Bridge}
 use Rattle.statements.specs.Items.{Fault}
 use Rattle.statements.specs.declared.Pair.{Pair}
 use Rattle.tables.specs.Tables.{TruthTable}
-use Rattle.tables.specs.TableWellFormed.{TableRight}
 use Rattle.lookup.specs.StuckPairs.{pair_value, OfInputs}
 use Rattle.lookup.specs.TableRows.{stuck_row_number, bridge_row, fault_row, table_row, table_rows}
 use Rattle.lookup.specs.Steps.{pair_row}
 use Rattle.lookup.proofs.StuckPairs.{bit-small}
-use Rattle.lookup.proofs.PairRows.{pair_none, pair-some, stuck_row_steps, bridge-row-below, fault-row-below}
+use Rattle.lookup.proofs.PairRows.{pair_none, pair-some, stuck_row_steps, bridge-row-below, stuck-row-below}
 use Rattle.lookup.proofs.RowsOfTables.{table-room}
 
 -- bit i is kept, or the same whatever the row
@@ -117,17 +117,19 @@ module _ (f : Fault) (set all : ℕ) (e : set ≡ stuck_row_number f 0) (g : all
   by-masks : (y : ℕ) → y < 256 → bit_or (bit_and y (bit_xor all set)) set ≡ stuck_row_number f y
   by-masks y small = ap₂ (λ (a b : ℕ). bit_or (bit_and y (bit_xor a b)) b) g e ∙ stuck-row-masked f y small
 
-  module _ (t : TruthTable) (right : TableRight t) (o : OfInputs t.inputs f) where
-    bridged-small : (x : ℕ) → x < 2 ^ t.inputs → bridge_row f.bridge x < 256
-    bridged-small x h = omega (arith, table-room t right, bridge-row-below f.bridge x t.inputs o.bridge-rises o.bridge-high h)
+  pub masked_below : (inputs : ℕ) → inputs ≤ 8 → OfInputs inputs f → (y : ℕ) → y < 2 ^ inputs → bit_or (bit_and y (bit_xor all set)) set < 2 ^ inputs
+  masked_below inputs few o y h =
+      subst (λ (n : ℕ). n < 2 ^ inputs) (sym (by-masks y (omega (arith, table-room inputs few)))) (stuck-row-below inputs f y o h)
 
-    pub masked_below : (x : ℕ) → x < 2 ^ t.inputs → bit_or (bit_and (bridge_row f.bridge x) (bit_xor all set)) set < length t.marks
-    unfolding fault_row
-    masked_below x h =
-        subst (λ (n : ℕ). n < length t.marks) (sym (by-masks (bridge_row f.bridge x) (bridged-small x h))) (omega (arith, fault-row-below t.inputs f x o h, right.marks-all))
+  module _ (t : TruthTable) (few : t.inputs ≤ 8) (o : OfInputs t.inputs f) where
+    bridged-below : (x : ℕ) → x < 2 ^ t.inputs → bridge_row f.bridge x < 2 ^ t.inputs
+    bridged-below x h = bridge-row-below f.bridge x t.inputs o.bridge-rises o.bridge-high h
+
+    pub marks-there : length t.marks ≡ 2 ^ t.inputs → (x : ℕ) → x < 2 ^ t.inputs → bit_or (bit_and (bridge_row f.bridge x) (bit_xor all set)) set < length t.marks
+    marks-there marks x h = omega (arith, masked_below t.inputs few o (bridge_row f.bridge x) (bridged-below x h), marks)
 
     pub masked-rows : tab (2 ^ t.inputs) (masked_row t.marks f.bridge set (bit_xor all set)) ≡ table_rows t f
     unfolding table_rows table_row fault_row
     masked-rows =
         tab-ext (2 ^ t.inputs) (masked_row t.marks f.bridge set (bit_xor all set)) (table_row t f)
-        (λ x h. ap (λ (n : ℕ). pos (get_or t.marks n 0)) (by-masks (bridge_row f.bridge x) (bridged-small x h)))
+        (λ x h. ap (λ (n : ℕ). pos (get_or t.marks n 0)) (by-masks (bridge_row f.bridge x) (omega (arith, table-room t.inputs few, bridged-below x h))))

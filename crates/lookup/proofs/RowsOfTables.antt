@@ -7,7 +7,9 @@
 --   bridged-table-rows                      under a bridge they are the sound ones with both its inputs replaced by their AND
 --   table-fault-of-inputs                   every fault of a right table names inputs only
 --   table-room, any-table-fault             there are at most 256 rows, and a fault of the table's inputs is one of 8 inputs
+--   rows_as_marked                          the rows of a table are those of its inputs and marks
 use mathlib.Core.Path.{◌≡◌, refl, sym, ap, ◌∙◌, subst}
+use mathlib.Core.List.{List}
 use mathlib.Core.Logic.{inr}
 use Prim.Native.Nat.{ℕ, zero, suc, ◌^◌, ◌≤◌, ◌<◌, zero-le}
 use native.Mathlib.Nat.{lt_of_not-le, le_trans}
@@ -15,8 +17,9 @@ use native.Mathlib.Decide.{dec_le}
 use native.Mathlib.Omega.{arith}
 use lib.Dec.{lit≤}
 use lib.IntN.{ℤ, pos, nat_abs}
-use lib.ListN.{length, get_or, get_or-eq_default}
+use lib.ListN.{length, take, get_or, get_or-eq_default}
 use lib.Pow.{pow_mono}
+use lib.Seq.{take_all}
 use Rattle.integer.specs.Tab.{tab, nth, Within}
 use Rattle.integer.proofs.Bounds.{within_more}
 use Rattle.integer.proofs.Tabs.{length-tab, get_or-tab, tab-ext}
@@ -29,7 +32,7 @@ use Rattle.statements.specs.Items.{Fault}
 use Rattle.tables.specs.Tables.{TruthTable, table_fault_at}
 use Rattle.tables.specs.TableWellFormed.{TableRight}
 use Rattle.lookup.specs.StuckPairs.{pairs_of, OfInputs}
-use Rattle.lookup.specs.TableRows.{stuck_row_number, bridge_row, fault_row, table_row, table_rows}
+use Rattle.lookup.specs.TableRows.{stuck_row_number, bridge_row, fault_row, table_row, table_rows, table_of_marks}
 use Rattle.lookup.specs.Steps.{pair_row}
 use Rattle.lookup.proofs.StuckPairs.{sound-of-inputs, fault-of-inputs}
 use Rattle.lookup.proofs.PairRows.{pair_none, stuck_row_steps, bridge-none, bridge-some, fault-row-below}
@@ -114,16 +117,21 @@ table-fault-of-inputs t (suc k) right = pick (dec_le (length t.faults) k)
 
 -- The code's limits.
 
-module _ (t : TruthTable) (right : TableRight t) where
-  pub table-room : 2 ^ t.inputs ≤ 256
-  table-room = pow_mono {j = 8} right.inputs-high
+module _ (inputs : ℕ) (few : inputs ≤ 8) where
+  pub table-room : 2 ^ inputs ≤ 256
+  table-room = pow_mono {j = 8} few
 
-  pub any-table-fault : (f : Fault) → OfInputs t.inputs f → OfInputs 8 f
+  pub any-table-fault : (f : Fault) → OfInputs inputs f → OfInputs 8 f
   any-table-fault f o =
       record {
-        first = le_trans o.first right.inputs-high;
-        second = le_trans o.second right.inputs-high;
-        third = le_trans o.third right.inputs-high;
+        first = le_trans o.first few;
+        second = le_trans o.second few;
+        third = le_trans o.third few;
         bridge-rises = o.bridge-rises;
-        bridge-high = le_trans o.bridge-high right.inputs-high;
+        bridge-high = le_trans o.bridge-high few;
       }
+
+-- whatever else the table has
+pub rows_as_marked : (t : TruthTable) (f : Fault) → length t.marks ≡ 2 ^ t.inputs → table_rows (table_of_marks t.inputs (take (2 ^ t.inputs) t.marks)) f ≡ table_rows t f
+unfolding table_rows table_row
+rows_as_marked t f all = ap (λ (marks : List ℕ). tab (2 ^ t.inputs) (λ x. pos (get_or marks (fault_row f x) 0))) (take_all (2 ^ t.inputs) t.marks (omega (arith, all)))

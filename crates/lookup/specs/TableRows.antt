@@ -3,7 +3,7 @@
 --   so all coefficients of a table are kept and printed doubled."
 -- and under a bridge (note 8): "Both inputs then show the AND of what is applied."
 -- A fault that names no line replaces no input: so the rows of the sound table are those under `sound`.
-use Rattle.std.specs.Prelude.{ℕ, ◌^◌, cond, List, eqb, ℤ, pos, get_or}
+use Rattle.std.specs.Prelude.{ℕ, ◌^◌, cond, List, [], eqb, ℤ, pos, get_or}
 use Rattle.integer.specs.Tab.{tab}
 use Rattle.faults.specs.Faults.{replaced_all, bridged_row}
 use Rattle.statements.specs.declared.Bridge.{Bridge}
@@ -29,3 +29,7 @@ table_row t f x = pos (get_or t.marks (fault_row f x) 0)
 
 unfoldable pub table_rows : TruthTable → Fault → List ℤ
 table_rows t f = tab (2 ^ t.inputs) (table_row t f)
+
+-- a table as far as its rows ask: they come from its inputs and its marks alone
+abbrev pub table_of_marks : ℕ → List ℕ → TruthTable
+table_of_marks inputs marks = record { inputs = inputs; marks = marks; faults = []; cap = 0 }

@@ -2,10 +2,10 @@
 // would say it, and then each sum of its bits would need a proof that it fits.
 #![tactic(auto)]
 
-ghost use Rattle.std.specs.Prelude.{◌≡◌, ◌≤◌, ◌<◌, ◌^◌, length};
+ghost use Rattle.std.specs.Prelude.{◌≡◌, ◌≤◌, ◌<◌, ◌^◌, length, take};
 ghost use Rattle.statements.specs.FaultKinds.{PairNamed, pair_or_free};
 ghost use Rattle.lookup.specs.StuckPairs.{OfInputs};
-ghost use Rattle.lookup.specs.TableRows.{stuck_row_number, bridge_row, table_rows};
+ghost use Rattle.lookup.specs.TableRows.{stuck_row_number, bridge_row, table_rows, table_of_marks};
 ghost use Rattle.lookup.specs.Steps.{pair_row};
 
 use statements::{Bridge, Fault, FaultKind, Pair};
@@ -33,7 +33,7 @@ fn added_row(s: Option<Pair>, x: usize) -> usize
     }
 }
 
-// Row x with the pair's input replaced where it names one, as a pair of what no text states may not.
+// Row x with the pair's input replaced; x itself for a pair that names none, as one of a fault that no text states may.
 #[tactic(auto, unfolding(crate::specs::Steps::pair_row))]
 fn unstated_row(s: Pair, x: usize) -> usize
     requires { (s.line ≤ 8) × (x < 256) }
@@ -86,17 +86,27 @@ fn bridge_row(f: Fault, x: usize) -> usize
     }
 }
 
-// The rows under the fault, doubled. A stuck input is the same in every row, so two masks replace them all: what is set, and what is kept.
-// The inputs of a bridge differ from row to row.
-pub fn rows(t: &Table, f: Fault, out: &mut [i32])
-    requires { OfInputs t.now.inputs f × (length out.old ≡ 2 ^ t.now.inputs) }
-    ensures { out.new ≡ table_rows t.now f }
+// The rows under the fault of a table of so many inputs and these marks, of which the first 2^N count. A mark may be any number; those of a text are 0, 1 and 2.
+// A stuck input is the same in every row, so two masks replace them all: what is set, and what is kept. The inputs of a bridge differ from row to row.
+pub fn rows_of_marks(inputs: usize, marks: &[u8], f: Fault, out: &mut [i32])
+    requires { (inputs ≤ 8) × (2 ^ inputs ≤ length marks.now) × OfInputs inputs f × (length out.old ≡ 2 ^ inputs) }
+    ensures { out.new ≡ table_rows (table_of_marks inputs (take (2 ^ inputs) marks.now)) f }
 {
-    let marks = t.marks();
+    let due: usize = 1 << inputs;
+    let used = &marks[..due];
     let set = stuck_row(f, 0);
     let kept = stuck_row(f, 255) ^ set;
     for (x, value) in out.iter_mut().enumerate() {
         let row = (bridge_row(f, x) & kept) | set;
-        *value = i32::from(marks[row]);
+        *value = i32::from(used[row]);
     }
+}
+
+// The rows of a table under the fault, doubled.
+#[tactic(auto, using(crate::proofs::RowsOfTables::rows_as_marked))]
+pub fn rows(t: &Table, f: Fault, out: &mut [i32])
+    requires { OfInputs t.now.inputs f × (length out.old ≡ 2 ^ t.now.inputs) }
+    ensures { out.new ≡ table_rows t.now f }
+{
+    rows_of_marks(t.inputs(), t.marks(), f, out);
 }

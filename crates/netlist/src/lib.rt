@@ -12,7 +12,7 @@ pub use parsing::parse;
 use statements::{Fault, Head, Output};
 use std::marker::Model;
 
-/// The circuit of an accepted text. In contracts a circuit is its netlist.
+/// A circuit that a text can state. In contracts a circuit is its netlist.
 #[derive(Clone, Copy)]
 pub struct Circuit {
     // each array is in use as far as the head says, with none past it: there is no heap

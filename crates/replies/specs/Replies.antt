@@ -4,7 +4,7 @@ use Rattle.fixture.specs.ReadingCall.{Compared}
 use Rattle.planner.specs.PlanCall.{Planned}
 use Rattle.reading.specs.Readings.{ReadingAnswer, Syndrome, Weighted, Constrained, Unreadable, reading_number, reading_place, reading_of, fixed_of}
 use Rattle.report.specs.ReportCall.{Reported}
-use Rattle.std.specs.declared.ops.Range.{Range}
+use Rattle.text.specs.declared.Span.{Span}
 use Rattle.screen.specs.Answers.{Answer, answer_number, answer_place}
 use Rattle.walsh.specs.Coefficients.{Found, found_number, found_place, found_value}
 use Rattle.replies.specs.declared.Comparison.{Comparison}
@@ -55,6 +55,6 @@ pub record GivesPair (r : Comparison) (a : Compared) : Type 0 where
   pub faulty : r.faulty ≡ a.readings.faulty
   pub difference : r.difference ≡ a.readings.difference
 
-pub record GivesSpan (r : Part) (s : Range ℕ) : Type 0 where
+pub record GivesSpan (r : Part) (s : Span) : Type 0 where
   pub start : r.start ≡ s.start
   pub end : r.start + r.length ≡ s.end

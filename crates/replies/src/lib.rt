@@ -9,7 +9,7 @@ ghost use Rattle.replies.specs.Replies.{GivesSpan};
 use reading::{Reading, ReadingPair};
 use refusals::Refusal;
 use search::LabelSet;
-use std::ops::Range;
+use text::Span;
 
 // Number 0 where the call is done.
 #[repr(C)]
@@ -217,8 +217,8 @@ impl From<Result<ReadingPair, Refusal>> for Comparison {
     }
 }
 
-// No `From`: it cannot ask that the range does not end before it starts.
-pub fn to_part(s: Range<usize>) -> Part
+// No `From`: it cannot ask that the span does not end before it starts.
+pub fn to_part(s: Span) -> Part
     requires { s.start ≤ s.end }
     ensures { GivesSpan result s }
 {

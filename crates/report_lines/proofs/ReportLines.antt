@@ -1,6 +1,6 @@
 -- The lines of a report, one at a time:
---   refused-length, refusal-length, plan-length, label-length, fault-length    how long a line is
---   refused-read, refusal-read, plan-read, label-read, FaultRead, fault-read    a line with its numbers as the code reads them
+--   refused-length, plan-length, label-length, fault-length    how long a line is
+--   refused-read, plan-read, label-read, FaultRead, fault-read    a line with its numbers as the code reads them
 --   at-spectrum, label-lines-same, covering-same    lines and first covering labels, read off the spectra
 --   covering-here, covering-later, covering-none    a search for the first covering label
 --   spectrum-left    what the spectrum leaves in a buffer of its size
@@ -50,9 +50,9 @@ use Rattle.report_lines.specs.Steps.{spectral_label_line, differ_at, spectral_co
 -- ---- how long lines are
 
 -- a refusal's number has at most two digits
-pub refusal-number-small : (r : Refusal) → refusal_number r < 100
-refusal-number-small TextTooLong = omega arith
-refusal-number-small (Line flaw line) = of-flaw flaw
+pub refusal_number_small : (r : Refusal) → refusal_number r < 100
+refusal_number_small TextTooLong = omega arith
+refusal_number_small (Line flaw line) = of-flaw flaw
   where
     of-flaw : (f : Flaw) → flaw_number f < 100
     of-flaw Malformed = omega arith
@@ -62,15 +62,15 @@ refusal-number-small (Line flaw line) = of-flaw flaw
     of-flaw NotRising = omega arith
     of-flaw NotAMark = omega arith
     of-flaw NotInputs = omega arith
-refusal-number-small (TextGoesOn line) = omega arith
-refusal-number-small ShortBuffer = omega arith
-refusal-number-small WrongLength = omega arith
-refusal-number-small (OutOfRange index) = omega arith
-refusal-number-small (Indivisible index) = omega arith
-refusal-number-small WrongArgument = omega arith
-refusal-number-small (Silent fault) = omega arith
-refusal-number-small (Hidden fault) = omega arith
-refusal-number-small NoSet = omega arith
+refusal_number_small (TextGoesOn line) = omega arith
+refusal_number_small ShortBuffer = omega arith
+refusal_number_small WrongLength = omega arith
+refusal_number_small (OutOfRange index) = omega arith
+refusal_number_small (Indivisible index) = omega arith
+refusal_number_small WrongArgument = omega arith
+refusal_number_small (Silent fault) = omega arith
+refusal_number_small (Hidden fault) = omega arith
+refusal_number_small NoSet = omega arith
 
 pub refused-length : (number place : ℕ) → number < 100 → place < 1000 → length (refused_line number place) ≤ 15
 unfolding refused_line
@@ -132,14 +132,6 @@ module _ (at : ℕ) (read line out : List ℕ) (same : read ≡ line) where
 pub refused-read : (number place : ℕ) → number < 100 → place < 1000 → line_of refused_word (to_z w32 number ∷ to_z w32 place ∷ []) ≡ refused_line number place
 unfolding refused_line
 refused-read number place h k = rw (natural-bits number (omega (arith, h)), natural-bits place (omega (arith, k)))
-
--- the line of a refusal, by what its methods give
-pub refusal-read : (r : Refusal) {number place : ℕ} → refusal_place r < 1000 → number ≡ refusal_number r → place ≡ refusal_place r
-    → line_of refused_word (to_z w32 number ∷ to_z w32 place ∷ []) ≡ refused_line (refusal_number r) (refusal_place r)
-refusal-read r k n p = rw (n, p) (refused-read (refusal_number r) (refusal_place r) (refusal-number-small r) k)
-
-pub refusal-length : (r : Refusal) → refusal_place r < 1000 → length (refused_line (refusal_number r) (refusal_place r)) ≤ 15
-refusal-length r k = refused-length (refusal_number r) (refusal_place r) (refusal-number-small r) k
 
 pub plan-read : (size : ℕ) → size < 10 → line_of plan_word (to_z w32 size ∷ []) ≡ plan_line size
 unfolding plan_line

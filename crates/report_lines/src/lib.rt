@@ -16,14 +16,24 @@ ghost use Rattle.report_lines.specs.Steps.{spectral_label_line, spectral_coverin
 use devices::Device;
 use refusals::Refusal;
 
+// The line `refused,NUMBER,PLACE` at the front, also with numbers that no call gives.
+pub fn refused_line_of(out: &mut [u8], number: u32, place: usize) -> usize
+    requires { (report_bytes ≤ length out.old) × (number < 100) × (place < 1000) }
+    ensures value { result ≡ length (refused_line number place) }
+    ensures out_after { out.new ≡ placed 0 (refused_line number place) out.old }
+{
+    let numbers = [number as i32, place as i32];
+    writing::put_line(out, 0, b"refused", &numbers)
+}
+
 // The line of a refusal, at the front.
+#[tactic(auto, using(crate::proofs::ReportLines::refusal_number_small))]
 pub fn refused_line(out: &mut [u8], refusal: Refusal) -> usize
     requires { (report_bytes ≤ length out.old) × (refusal_place refusal < 1000) }
     ensures value { result ≡ length (refused_line (refusal_number refusal) (refusal_place refusal)) }
     ensures out_after { out.new ≡ placed 0 (refused_line (refusal_number refusal) (refusal_place refusal)) out.old }
 {
-    let numbers = [refusal.number() as i32, refusal.place() as i32];
-    writing::put_line(out, 0, b"refused", &numbers)
+    refused_line_of(out, refusal.number(), refusal.place())
 }
 
 // The lines of all labels, each with its sound coefficient.

@@ -43,7 +43,7 @@ pub enum FaultKind {
     Sound,
     Stuck(Pair, Option<Pair>, Option<Pair>),
     Bridged(Bridge),
-    // What no text states, as pairs beside a bridge: as the definitions have it, where line 0 names none.
+    // What no text states, as pairs beside a bridge: three pairs and a bridge, as the definitions have them; one of line 0 is not there.
     Unstated(Pair, Pair, Pair, Bridge),
 }
 

@@ -11,9 +11,8 @@ use native.Mathlib.Omega.{arith}
 use lib.ListN.{length, take, drop, replicate, get_or, set, length-set, take-append-drop}
 use lib.Seq.{take-suc, take-suc-set, take_all, drop-cons}
 use borrow.Author.Tests.{eq-eqb, ne_eqb}
-use Rattle.std.proofs.lemmas.List.{length-replicate}
 use Rattle.integer.specs.Padded.{padded}
-use Rattle.integer.proofs.Arrays.{padded-taken, spare-stored}
+use Rattle.integer.proofs.Arrays.{padded-taken}
 use Rattle.integer.proofs.Bools.{both}
 use Rattle.fields.specs.Fields.{unless}
 use Rattle.tables.specs.TableLines.{is_mark, doubled_mark, all_marks, mark_refusal, marks_of}
@@ -34,11 +33,10 @@ pub record MarksRead (line marks : List ℕ) (x : ℕ) : Type 0 where
   pub size : length marks ≡ 256
   pub kept : take x marks ≡ marks_of (take x line)
   pub all : all_marks (take x line) ≡ true
-  pub spare : drop x marks ≡ replicate (256 - x) 0
 
-pub marks-begun : (line : List ℕ) → MarksRead line (replicate 256 0) 0
+pub marks-begun : (line marks : List ℕ) → length marks ≡ 256 → MarksRead line marks 0
 unfolding marks_of all_marks
-marks-begun line = record { within = zero-le; size = length-replicate {A = ℕ} 256 0; kept = refl; all = refl; spare = refl }
+marks-begun line marks e = record { within = zero-le; size = e; kept = refl; all = refl }
 
 pub marks-short : (inputs : ℕ) (line : List ℕ) → (length line ≡ 2 ^ inputs → ⊥) → 2 ≡ mark_refusal inputs line
 unfolding mark_refusal unless
@@ -61,7 +59,6 @@ module _ {line marks : List ℕ} {x : ℕ} (read : MarksRead line marks x) where
               ∙ ap₂ (λ (l : List ℕ) (y : ℕ). l ++ (y ∷ [])) read.kept is
               ∙ sym (ap marks_of next ∙ marks-append (take x line) (get_or line x 0 ∷ []));
           all = ap all_marks next ∙ all_after (take x line) (get_or line x 0 ∷ []) read.all ∙ rw mark;
-          spare = spare-stored 256 x 0 marks v read.spare;
         }
 
     pub mark-other : (inputs : ℕ) → length line ≡ 2 ^ inputs → is_mark (get_or line x 0) ≡ false → 15 ≡ mark_refusal inputs line
@@ -81,7 +78,7 @@ module _ {line marks : List ℕ} {x : ℕ} (read : MarksRead line marks x) where
         let e : 2 ^ inputs ≡ x = omega (arith, read.within, long) in
         ap (λ (k : ℕ). take k marks) e ∙ read.kept ∙ ap marks_of (take_all x line end)
 
-    pub marks-padded : 2 ^ inputs ≤ 256 → marks ≡ padded 256 0 (take (2 ^ inputs) marks)
-    marks-padded few =
+    pub marks-padded : drop x marks ≡ replicate (256 - x) 0 → 2 ^ inputs ≤ 256 → marks ≡ padded 256 0 (take (2 ^ inputs) marks)
+    marks-padded spare few =
         let e : x ≡ 2 ^ inputs = omega (arith, read.within, long) in
-        padded-taken 256 (2 ^ inputs) 0 marks (omega (arith, e, read.within, read.size)) (ap (λ (k : ℕ). drop k marks) (sym e) ∙ read.spare ∙ ap (λ (k : ℕ). replicate (256 - k) 0) e)
+        padded-taken 256 (2 ^ inputs) 0 marks (omega (arith, e, read.within, read.size)) (ap (λ (k : ℕ). drop k marks) (sym e) ∙ spare ∙ ap (λ (k : ℕ). replicate (256 - k) 0) e)

@@ -21,7 +21,7 @@ struct TableHead {
 
 // It has the shape of `netlist::Circuit`: a head and arrays with a model, and methods that hand parts out. One struct for both would take the marks or the gates and
 // outputs, the head, the model and its invariant as parameters, to share four methods of one line.
-/// The table of an accepted text. In contracts a table is its truth table.
+/// A table that a text can state. In contracts a table is its truth table.
 #[derive(Clone, Copy)]
 pub struct Table {
     // the marks are doubled, one for each row: 0, 1 for a free row, 2; each array is in use as far as the head says, with none past it: there is no heap

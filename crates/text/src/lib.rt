@@ -4,10 +4,15 @@
 ghost use Rattle.std.specs.Prelude.{◌≡◌, ◌+◌, length, drop};
 ghost use Rattle.text.specs.Text.{index_of, field_of, field_start, further, field_count, same_bytes, number_of, signed_number_of};
 
-use std::ops::Range;
-
 // A text has at most so many bytes.
 pub const TEXT_BYTES: usize = 16384;
+
+// Where a field stands: `text[start..end]`. Not the library's `Range`, which is no Copy.
+#[derive(Clone, Copy)]
+pub struct Span {
+    pub start: usize,
+    pub end: usize,
+}
 
 // The index of the first b from `from` on, or the text's end where there is none (`from` itself past the end): each ends the part that starts at `from`, so no
 // Option. `from` stays beside the text, since `locate` hands back where a field stands in the whole of it.
@@ -35,18 +40,22 @@ pub fn fields(text: &[u8]) -> usize
 }
 
 // Where field k stands, from 0; at the text's end where there is none, which is what document 01 hands back.
-pub fn locate(text: &[u8], k: usize) -> Range<usize>
+pub fn locate(text: &[u8], k: usize) -> Span
     ensures { (result.start ≡ field_start text.now k) × (result.end ≡ field_start text.now k + length (field_of text.now k)) }
 {
     let mut start = 0;
     for _ in 0..k {
         let comma = find(text, start, b',');
         if text.len() <= comma {
-            return text.len()..text.len();
+            let end = text.len();
+            return Span { start: end, end };
         }
         start = comma + 1;
     }
-    start..find(text, start, b',')
+    Span {
+        start,
+        end: find(text, start, b','),
+    }
 }
 
 // Field k, from 0: the part of the text between two commas or ends, and the empty part at the text's end where there is none. The second promise

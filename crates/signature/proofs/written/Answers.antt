@@ -1,5 +1,4 @@
 -- The report stands at the front of what was lent.
-use Rattle.std.proofs.Common.{ap, subst, sym, ℕ, List}
 use Rattle.report.proofs.ReportLaws.{report-front}
 use Rattle.signature.proofs.written.Goals as goal
 

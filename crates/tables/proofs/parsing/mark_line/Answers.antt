@@ -1,4 +1,5 @@
-use Rattle.std.proofs.Common.{rules, arith, ◌≡◌, ◌^◌, length, sym}
+use Rattle.std.proofs.Common.{rules, arith, ◌≡◌, ◌^◌, length, refl, sym}
+use Rattle.integer.proofs.Arrays.{spare-stored}
 use Rattle.integer.proofs.Machine.{due-is, due-few}
 use Rattle.sections.proofs.HandedOn.{handed-on}
 use Rattle.tables.proofs.MarksSoFar.{marks-begun, marks-turned, marks-short, mark-other, marks-passed, marks-kept, marks-padded}
@@ -13,20 +14,27 @@ long : (c : Else-line-due) → length c.args.line.now ≡ 2 ^ c.args.inputs
 long c = omega (arith, c.if-line-due.false, due-is c.args.inputs c.requires)
 
 pub loop-x-init : goal.loop-x-init
-loop-x-init c = marks-begun c.args.line.now
+loop-x-init c = (marks-begun _ _ (search rules), refl)
 
 pub returns-in_err-marks : goal.returns-in_err-marks
 returns-in_err-marks c =
     let due = long (goal.at.returns-in_err-marks c).Else-line-due in
-    let h = mark-other c.loop-x.invariant (search rules) c.args.inputs due (search rules) in
+    let h = mark-other c.loop-x.invariant.0 (search rules) c.args.inputs due (search rules) in
     rw (handed-on c.from_residual.ensures.1) (search rules)
 
 pub loop-x-preserved : goal.loop-x-preserved
 loop-x-preserved c =
     let due = long (goal.at.loop-x-preserved c).Else-line-due in
-    marks-turned c.loop-x.invariant (search rules) (omega (arith, due, due-is c.args.inputs c.requires, due-few c.args.inputs c.requires)) (search rules) (search rules)
+    let few = due-few c.args.inputs c.requires in (
+      marks-turned c.loop-x.invariant.0 (search rules) (omega (arith, due, due-is c.args.inputs c.requires, few)) (search rules) (search rules),
+      spare-stored 256 _ 0 _ _ c.loop-x.invariant.1,
+    )
 
 pub returns : goal.returns
 returns c =
     let due = long (goal.at.returns c).Else-line-due in
-    (sym (marks-passed c.loop-x.invariant c.args.inputs due (search rules)), marks-kept c.loop-x.invariant c.args.inputs due (search rules), marks-padded c.loop-x.invariant c.args.inputs due (search rules) (omega (arith, due-is c.args.inputs c.requires, due-few c.args.inputs c.requires)))
+    let read = c.loop-x.invariant.0 in (
+      sym (marks-passed read c.args.inputs due (search rules)),
+      marks-kept read c.args.inputs due (search rules),
+      marks-padded read c.args.inputs due (search rules) c.loop-x.invariant.1 (omega (arith, due-is c.args.inputs c.requires, due-few c.args.inputs c.requires)),
+    )

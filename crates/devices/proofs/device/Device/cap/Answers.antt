@@ -1,9 +1,9 @@
-use Rattle.std.proofs.Common.{refl, ◌∙◌}
+use Rattle.std.proofs.Common.{◌∙◌}
 use Rattle.devices.proofs.Forms.{circuit-cap, table-cap}
 use Rattle.devices.proofs.device.Device.cap.Goals as goal
 
 pub returns-in-Gates : goal.returns-in-Gates
-returns-in-Gates c = c.cap.ensures ∙ circuit-cap _ _ refl _ c.in-Gates.is
+returns-in-Gates c = c.cap.ensures ∙ circuit-cap _ _ c.in-Gates.is
 
 pub returns-in-Marks : goal.returns-in-Marks
-returns-in-Marks c = c.cap-in-Marks.ensures ∙ table-cap _ _ refl _ c.in-Marks.is
+returns-in-Marks c = c.cap-in-Marks.ensures ∙ table-cap _ _ c.in-Marks.is
