@@ -1,6 +1,6 @@
 -- The lines of a report, one at a time:
---   refused-length, plan-length, label-length, fault-length    how long a line is
---   refused-read, plan-read, label-read, FaultRead, fault-read    a line with its numbers as the code reads them
+--   refused-length, refusal-length, plan-length, label-length, fault-length    how long a line is
+--   refused-read, refusal-read, plan-read, label-read, FaultRead, fault-read    a line with its numbers as the code reads them
 --   at-spectrum, label-lines-same, covering-same    lines and first covering labels, read off the spectra
 --   covering-here, covering-later, covering-none    a search for the first covering label
 --   spectrum-left    what the spectrum leaves in a buffer of its size
@@ -132,6 +132,14 @@ module _ (at : ℕ) (read line out : List ℕ) (same : read ≡ line) where
 pub refused-read : (number place : ℕ) → number < 100 → place < 1000 → line_of refused_word (to_z w32 number ∷ to_z w32 place ∷ []) ≡ refused_line number place
 unfolding refused_line
 refused-read number place h k = rw (natural-bits number (omega (arith, h)), natural-bits place (omega (arith, k)))
+
+-- the line of a refusal, by what its methods give
+pub refusal-read : (r : Refusal) {number place : ℕ} → refusal_place r < 1000 → number ≡ refusal_number r → place ≡ refusal_place r
+    → line_of refused_word (to_z w32 number ∷ to_z w32 place ∷ []) ≡ refused_line (refusal_number r) (refusal_place r)
+refusal-read r k n p = rw (n, p) (refused-read (refusal_number r) (refusal_place r) (refusal_number_small r) k)
+
+pub refusal-length : (r : Refusal) → refusal_place r < 1000 → length (refused_line (refusal_number r) (refusal_place r)) ≤ 15
+refusal-length r k = refused-length (refusal_number r) (refusal_place r) (refusal_number_small r) k
 
 pub plan-read : (size : ℕ) → size < 10 → line_of plan_word (to_z w32 size ∷ []) ≡ plan_line size
 unfolding plan_line

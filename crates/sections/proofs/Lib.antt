@@ -7,3 +7,4 @@ pub mod LinesDue
 pub mod LinesOnly
 pub mod LinesRead
 pub mod LinesWritten
+pub mod StatedFaults
